@@ -1,0 +1,9 @@
+pub mod Answers
+pub mod Batches
+pub mod Entries
+pub mod Keys
+pub mod Lengths
+pub mod Map
+pub mod Numbers
+pub mod Profiles
+pub mod Texts
