@@ -22,6 +22,8 @@ mod number;
 mod op;
 mod options;
 mod profile;
+#[cfg(test)]
+mod tests;
 mod value;
 mod value_fault;
 
