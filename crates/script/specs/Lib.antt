@@ -1,0 +1,9 @@
+pub mod Cause
+pub mod Gives
+pub mod Laws
+pub mod Line
+pub mod Reply
+pub mod Report
+pub mod Script
+pub mod Token
+pub mod Written
