@@ -1,0 +1,5 @@
+pub mod Bytes
+pub mod Images
+pub mod Moments
+pub mod Names
+pub mod Told

@@ -1,0 +1,23 @@
+//! What the store asks of its devices, scripts and sinks, and a form of each in memory.
+//!
+//! The layers above use the traits `Journal`, `Devices`, `Scripts`, `Sinks` and `Sink`, and the clauses of
+//! `specs/`: what reads give, what a crash may leave at any moment, and that a call fails only where a count
+//! of faults rose. They may not know which devices they run over, nor whether these tell what they hold.
+//! The forms in memory tell all they hold, fail by a plan, and can crash; they are for tests.
+#![tactic(auto)]
+
+mod devices;
+mod failed;
+mod journal;
+mod journal_file;
+mod scripts;
+mod sink;
+mod sinks;
+
+pub use devices::Devices;
+pub use failed::Failed;
+pub use journal::Journal;
+pub use journal_file::JournalFile;
+pub use scripts::Scripts;
+pub use sink::Sink;
+pub use sinks::Sinks;
