@@ -1,4 +1,5 @@
 pub mod Bytes
+pub mod Files
 pub mod Images
 pub mod Moments
 pub mod Names

@@ -8,11 +8,13 @@
 
 mod devices;
 mod failed;
+mod files;
 mod journal;
 mod journal_file;
 mod scripts;
 mod sink;
 mod sinks;
+mod stored;
 
 pub use devices::Devices;
 pub use failed::Failed;
