@@ -1,0 +1,12 @@
+pub mod Answers
+pub mod Batches
+pub mod Entries
+pub mod KeyLaws
+pub mod Keys
+pub mod Laws
+pub mod Lengths
+pub mod Map
+pub mod MapLaws
+pub mod Numbers
+pub mod Profiles
+pub mod Texts
