@@ -6,20 +6,29 @@
 //! The forms in memory tell all they hold, fail by a plan, and can crash; they are for tests.
 #![tactic(auto)]
 
+mod call;
+mod calls;
 mod devices;
+mod fail_plan;
 mod failed;
 mod files;
 mod journal;
 mod journal_file;
+mod mem_journal;
+mod plans;
 mod scripts;
 mod sink;
 mod sinks;
 mod stored;
+mod turns;
 
 pub use devices::Devices;
+pub use fail_plan::FailPlan;
 pub use failed::Failed;
 pub use journal::Journal;
 pub use journal_file::JournalFile;
+pub use mem_journal::MemJournal;
+pub use plans::Plans;
 pub use scripts::Scripts;
 pub use sink::Sink;
 pub use sinks::Sinks;
