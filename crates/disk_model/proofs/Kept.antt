@@ -123,7 +123,7 @@ module _ (first : Image) (past later : List Call) where
     are_written file at v within is = are_after (Write file at v) is (subst (λ b. at ≤ length (content b)) (agrees file) within, are)
 
     pub are_removed : (file : JournalFile) → later ≡ past ++ Remove file ∷ [] → AreCalls first (reverse later)
-    are_removed file is = are_after (Remove file) is are
+    are_removed file is = are_after (Remove file) is (tt, are)
 
     pub agrees_refused : later ≡ past → new ≡ old → (other : JournalFile) → new other ≡ read_after first (reverse later) other
     agrees_refused is made other = ap (λ f. f other) made ∙ agrees other ∙ ap (λ l. read_after first (reverse l) other) (sym is)

@@ -1,12 +1,13 @@
 -- Files in memory, by their names.
-use Rattle.std.proofs.Common.{◌≡◌, ◌≢◌, ◌⊎◌, inl, inr, ℕ, zero, suc, Bool, true, false, cond, ◌==◌, List, [], ◌∷◌, ◌++◌, Option, None, Some, refl, sym, ap, ◌∙◌, subst, arith, set, get_or, Vec}
+use Rattle.std.proofs.Common.{◌≡◌, ◌≢◌, ◌⊎◌, inl, inr, ℕ, zero, suc, Bool, true, false, cond, ◌==◌, List, [], ◌∷◌, ◌++◌, Option, None, Some, refl, sym, ap, ◌∙◌, subst, arith, set, get_or, take, drop, length, ◌≤◌, ◌-◌, Vec}
+use Rattle.std.proofs.lemmas.List.{take_all}
 use Rattle.std.proofs.lemmas.Bool.Decides.{nat_tests}
 use Rattle.std.specs.declared.alloc.Global.{Global}
 use Rattle.disk_model.specs.declared.journal_file.JournalFile.{JournalFile}
 use Rattle.disk_model.specs.declared.journal_file.JournalFile.TheVariants.{ManifestA, ManifestB, Log}
 use Rattle.disk_model.specs.declared.stored.Stored.{Stored}
 use Rattle.disk_model.specs.Images.{Image}
-use Rattle.disk_model.specs.Files.{same_file, changed, bytes_of, image_of, IsFirstAt, IsNowhere, decide, same_true}
+use Rattle.disk_model.specs.Files.{same_file, changed, bytes_of, image_of, IsFirstAt, IsNowhere, decide, same_true, same_self}
 
 module _ (file : JournalFile) where
   -- the first entry of a name holds the file
@@ -77,3 +78,13 @@ module _ (file : JournalFile) where
   pub push_step : (files : List Stored) (s : Stored) (step : Option (List ℕ) → Option (List ℕ)) → IsNowhere files file → s.file ≡ file → bytes_of s.bytes ≡ step None
       → image_of (files ++ s ∷ []) ≡ changed file (step (image_of files file)) (image_of files)
   push_step files s step none named bytes = push_new files s named none ∙ ap (λ b. changed file b (image_of files)) (bytes ∙ ap step (sym (nowhere files none)))
+
+-- a copy of the first file in its place before the copies of the others
+pub copy_first : (files : List Stored) (stored : Stored) (old new : Image) (bytes : Option (List ℕ)) → 1 ≤ length files → stored ≡ get_or files 0 stored
+    → old ≡ image_of (take (length files - 1) (drop 1 files)) → bytes ≡ image_of files stored.file → new ≡ changed stored.file bytes old → new ≡ image_of files
+copy_first [] stored old new bytes some is copied copy made = absurd (omega (arith, some))
+copy_first (x ∷ rest) stored old new bytes some is copied copy made =
+    let first : image_of (x ∷ rest) x.file ≡ bytes_of x.bytes = ap (λ b. cond b (bytes_of x.bytes) (image_of rest x.file)) (same_self x.file) in
+    let own : bytes ≡ bytes_of x.bytes = copy ∙ ap (λ s. image_of (x ∷ rest) s.file) is ∙ first in
+    let all : take (length (x ∷ rest) - 1) rest ≡ rest = take_all (length (x ∷ rest) - 1) rest (omega arith) in
+    made ∙ ap (λ s. changed s.file bytes old) is ∙ ap (λ b. changed x.file b old) own ∙ ap (changed x.file (bytes_of x.bytes)) (copied ∙ ap image_of all)

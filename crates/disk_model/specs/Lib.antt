@@ -1,4 +1,5 @@
 pub mod Bytes
+pub mod Crashes
 pub mod Files
 pub mod Images
 pub mod Moments
@@ -6,3 +7,4 @@ pub mod Names
 pub mod Past
 pub mod Plans
 pub mod Told
+pub mod Torn

@@ -1,5 +1,5 @@
 // Files in memory, by their names. Of two entries with one name the first counts.
-ghost use Rattle.std.specs.Prelude.{◌≡◌, ◌≤◌, ◌<◌, ◌+◌, ◌^◌, None, Some, IfSome, IfNone, OnOk, OnErr, length, take, drop};
+ghost use Rattle.std.specs.Prelude.{◌≡◌, ◌≤◌, ◌<◌, ◌+◌, ◌^◌, None, Some, IfSome, IfNone, IfOk, OnOk, OnErr, length, take, drop};
 ghost use Rattle.std.specs.Option.{option_copied};
 ghost use Rattle.disk_model.specs.Images.{content, over};
 ghost use Rattle.disk_model.specs.Files.{same_file, changed, bytes_of, image_of, IsFirstAt, IsNowhere};
@@ -151,4 +151,29 @@ pub fn copy_from(bytes: &[u8], at: u64, out: &mut [u8]) -> usize
     let count = rest.len().min(out.len());
     out[..count].copy_from_slice(&rest[..count]);
     count
+}
+
+/// A copy of a file's bytes, or of their absence.
+pub fn copy_bytes(alloc: Global, bytes: Option<&[u8]>) -> Result<Option<Vec<u8>>, AllocError>
+    ensures { IfOk result (λ copy. bytes_of copy ≡ option_copied bytes.entry) }
+{
+    match bytes {
+        Some(bytes) => Ok(Some(bytes.to_vec(alloc)?)),
+        None => Ok(None),
+    }
+}
+
+/// A copy of the files.
+pub fn copy_of(alloc: Global, files: &[Stored]) -> Result<Vec<Stored>, AllocError>
+    ensures { IfOk result (λ copy. image_of copy.items ≡ image_of files.now) }
+{
+    match files {
+        [] => Ok(Vec::new(alloc)),
+        [stored, rest @ ..] => {
+            let mut copy = copy_of(alloc, rest)?;
+            let bytes = copy_bytes(alloc, get(files, stored.file))?;
+            put(&mut copy, stored.file, bytes)?;
+            Ok(copy)
+        }
+    }
 }

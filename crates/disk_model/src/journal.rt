@@ -1,4 +1,4 @@
-ghost use Rattle.std.specs.Prelude.{◌≡◌, ◌≢◌, ◌≤◌, ◌<◌, ◌+◌, ◌^◌, Bool, ℕ, Option, None, Some, IsTrue, length, take, drop, IfOk, OnOk, OnErr, IfSome};
+ghost use Rattle.std.specs.Prelude.{◌≡◌, ◌≢◌, ◌≤◌, ◌<◌, ◌+◌, ◌^◌, Bool, ℕ, Option, None, Some, IsTrue, IsOk, length, take, drop, IfOk, OnOk, OnErr, IfSome};
 ghost use Rattle.disk_model.specs.Images.{Image, content, size_of, over, Tears, Goes, Stays, In, Follows, Keeps, Elapses, HasCause};
 ghost use Rattle.disk_model.specs.declared.journal_file.JournalFile.{JournalFile};
 
@@ -28,6 +28,9 @@ pub trait Journal {
     /// How often a call has failed, a count that stays at 2^64 - 1 once it is there.
     ghost faults: { Self → ℕ };
 
+    /// While it holds, `size` and `read` never fail. It need never hold.
+    ghost steady: { Self → Type 0 };
+
     /// The file's size in bytes, or `None` exactly where the file isn't there.
     ///
     /// It changes nothing. `Failed` comes only where the count of faults rose.
@@ -37,6 +40,7 @@ pub trait Journal {
         ensures seen { seen self.new ≡ seen self.old }
         ensures images { Follows (In file Stays) (may_leave self.old) (left_since self.new (moment self.old)) }
         ensures time { Elapses (moment self.old) (moment self.new) (left_since self.old) (left_since self.new) }
+        ensures steady { steady self.old → IsOk result × steady self.new }
         ensures cause { HasCause (faults self.old) (faults self.new) result };
 
     /// Copies the file's bytes from place `at` on to the front of `out`, and gives their count.
@@ -49,6 +53,7 @@ pub trait Journal {
         ensures seen { seen self.new ≡ seen self.old }
         ensures images { Follows (In file Stays) (may_leave self.old) (left_since self.new (moment self.old)) }
         ensures time { Elapses (moment self.old) (moment self.new) (left_since self.old) (left_since self.new) }
+        ensures steady { steady self.old → IsOk result × steady self.new }
         ensures cause { HasCause (faults self.old) (faults self.new) result };
 
     /// Writes `bytes` from place `at` on, over what is there and past the end. An absent file is made.
@@ -64,6 +69,7 @@ pub trait Journal {
         ensures elsewhere { (other : JournalFile) → other ≢ file → seen self.new other ≡ seen self.old other }
         ensures images { Follows (In file (Tears at (length bytes.now))) (may_leave self.old) (left_since self.new (moment self.old)) }
         ensures time { Elapses (moment self.old) (moment self.new) (left_since self.old) (left_since self.new) }
+        ensures steady { steady self.old → steady self.new }
         ensures cause { HasCause (faults self.old) (faults self.new) result };
 
     /// Makes the file durable: from then on a crash leaves of it what a read gives.
@@ -75,6 +81,7 @@ pub trait Journal {
         ensures seen { seen self.new ≡ seen self.old }
         ensures images { Follows (In file Stays) (may_leave self.old) (left_since self.new (moment self.old)) }
         ensures time { Elapses (moment self.old) (moment self.new) (left_since self.old) (left_since self.new) }
+        ensures steady { steady self.old → steady self.new }
         ensures cause { HasCause (faults self.old) (faults self.new) result };
 
     /// Takes the file away durably: from then on no crash leaves it. An absent file is none the less Ok.
@@ -88,6 +95,7 @@ pub trait Journal {
         ensures elsewhere { (other : JournalFile) → other ≢ file → seen self.new other ≡ seen self.old other }
         ensures images { Follows (In file Goes) (may_leave self.old) (left_since self.new (moment self.old)) }
         ensures time { Elapses (moment self.old) (moment self.new) (left_since self.old) (left_since self.new) }
+        ensures steady { steady self.old → steady self.new }
         ensures cause { HasCause (faults self.old) (faults self.new) result };
 
     /// What a crash may leave at this moment is what it might have left since an earlier one.

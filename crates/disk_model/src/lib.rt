@@ -8,13 +8,16 @@
 
 mod call;
 mod calls;
+mod crash;
 mod devices;
+mod draws;
 mod fail_plan;
 mod failed;
 mod files;
 mod journal;
 mod journal_file;
 mod mem_journal;
+mod pick;
 mod plans;
 mod scripts;
 mod sink;
@@ -28,6 +31,7 @@ pub use failed::Failed;
 pub use journal::Journal;
 pub use journal_file::JournalFile;
 pub use mem_journal::MemJournal;
+pub use pick::Pick;
 pub use plans::Plans;
 pub use scripts::Scripts;
 pub use sink::Sink;

@@ -48,6 +48,7 @@ fn read_in(files: &[Stored], file: JournalFile, at: u64, out: &mut [u8]) -> usiz
 }
 
 impl Journal for MemJournal {
+    ghost use Rattle.disk_model.specs.Plans.{IsEmptyPlan};
     ghost use Rattle.disk_model.specs.Past.{IsLeft, IsLeftSince, left_now, only_left, kept_left};
 
     ghost tells = { true };
@@ -61,6 +62,8 @@ impl Journal for MemJournal {
     ghost left_since = { λ m t image. IsLeftSince (image_of m.first.items) (reverse m.past.items) t image };
 
     ghost faults = { λ m. m.turns.faults };
+
+    ghost steady = { λ m. IsEmptyPlan m.turns.plan };
 
     ghost counts_now = { λ m t image le now. left_now (image_of m.first.items) (reverse m.past.items) t image now };
 
