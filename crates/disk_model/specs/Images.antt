@@ -52,6 +52,10 @@ Follows step old new = (image : Image) → new image → (before : Image) × old
 abbrev pub Keeps : JournalFile → Option (List ℕ) → (Image → Type 0) → Type 0
 Keeps file bytes images = (image : Image) → images image → image file ≡ bytes
 
+-- a crash leaves nothing but what reads give
+abbrev pub IsAtRest : Image → (Image → Type 0) → Type 0
+IsAtRest seen images = (image : Image) → images image → image ≡ seen
+
 -- Time goes on. A crash since t might have left what it might have left before the call, or what a
 -- crash since the call began might have left.
 pub record Elapses (before now : ℕ) (past since : ℕ → Image → Type 0) : Type 0 where
