@@ -6,5 +6,6 @@ pub mod Moments
 pub mod Names
 pub mod Past
 pub mod Plans
+pub mod Synced
 pub mod Told
 pub mod Torn

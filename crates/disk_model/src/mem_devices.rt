@@ -1,6 +1,6 @@
 ghost use Rattle.std.specs.Prelude.{◌≡◌, None, Some, IfOk, IsOk};
 ghost use Rattle.std.specs.Option.{option_copied};
-ghost use Rattle.disk_model.specs.declared.pick.Pick.TheVariants.{New};
+ghost use Rattle.disk_model.specs.declared.pick.Pick.TheVariants.{Old, New};
 ghost use Rattle.disk_model.specs.Files.{changed};
 ghost use Rattle.disk_model.specs.Images.{IsAtRest};
 ghost use Rattle.disk_model.specs.Plans.{IsEmptyPlan};
@@ -18,6 +18,8 @@ pub struct MemDevices {
 }
 
 impl MemDevices {
+    ghost use Rattle.disk_model.specs.Synced.{synced_of};
+
     /// Devices with no file, of which a crash leaves no file.
     pub fn new(alloc: Global, plans: Plans) -> Result<MemDevices, Memory>
         ensures made { IsOk result }
@@ -35,7 +37,8 @@ impl MemDevices {
     }
 
     /// The devices after a crash: they hold one image that the crash may leave, and no call of them fails by
-    /// a plan. `New` takes what reads give.
+    /// a plan. `Old` takes of each file what its last sync
+    /// or removal left, `New` what reads give.
     ///
     /// Memory is the one refusal; the devices are then gone.
     pub fn crash(self, pick: Pick) -> Result<MemDevices, Memory>

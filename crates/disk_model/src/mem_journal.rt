@@ -2,11 +2,11 @@ ghost use Rattle.std.specs.Prelude.{◌≡◌, ◌^◌, ◌<◌, ◌≤◌, None
 ghost use Rattle.std.proofs.Props.{props};
 ghost use Rattle.disk_model.specs.declared.journal_file.JournalFile.{JournalFile};
 ghost use Rattle.std.specs.Option.{option_copied};
-ghost use Rattle.disk_model.specs.declared.pick.Pick.TheVariants.{New};
+ghost use Rattle.disk_model.specs.declared.pick.Pick.TheVariants.{Old, New};
 ghost use Rattle.disk_model.specs.Images.{content, size_of, IsAtRest};
 ghost use Rattle.disk_model.specs.Files.{image_of, changed};
 ghost use Rattle.disk_model.specs.Plans.{IsEmptyPlan};
-ghost use Rattle.disk_model.specs.Past.{read_after, AreCalls, AreCalls-prop};
+ghost use Rattle.disk_model.specs.Past.{read_after, kept_after, AreCalls, AreCalls-prop};
 
 use crate::call::Call;
 use crate::calls::{add_removal, add_sync, add_write};
@@ -149,6 +149,7 @@ impl MemJournal {
     /// The journal after a crash, which rests on one of the images that the crash may leave.
     pub fn crash(self, pick: Pick) -> Result<MemJournal, AllocError>
         ensures allowed { IfOk result (λ after. ⟦<MemJournal as Journal>⟧.may_leave self (⟦<MemJournal as Journal>⟧.seen after)) }
+        ensures old { pick ≡ Old → IfOk result (λ after. ⟦<MemJournal as Journal>⟧.seen after ≡ kept_after (image_of self.first.items) (reverse self.past.items)) }
         ensures new { pick ≡ New → IfOk result (λ after. ⟦<MemJournal as Journal>⟧.seen after ≡ ⟦<MemJournal as Journal>⟧.seen self) }
         ensures rests { IfOk result (λ after. IsAtRest (⟦<MemJournal as Journal>⟧.seen after) (⟦<MemJournal as Journal>⟧.may_leave after)) }
         ensures faults { IfOk result (λ after. ⟦<MemJournal as Journal>⟧.faults after ≡ 0) }
