@@ -6,6 +6,7 @@ pub mod Moments
 pub mod Names
 pub mod Past
 pub mod Plans
+pub mod Returned
 pub mod Synced
 pub mod Told
 pub mod Torn

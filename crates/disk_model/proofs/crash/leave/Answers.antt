@@ -4,7 +4,7 @@ use Rattle.disk_model.specs.declared.call.Call.{Call}
 use Rattle.disk_model.specs.Files.{image_of}
 use Rattle.disk_model.specs.Past.{IsLeft, IsWithin}
 use Rattle.disk_model.specs.Crashes.{IsTaken}
-use Rattle.disk_model.proofs.Taken.{next_call, next_within}
+use Rattle.disk_model.proofs.Crashing.{next_call, next_within}
 use Rattle.disk_model.proofs.crash.leave.Goals as goal
 
 pub leave_call-requires : goal.leave_call-requires

@@ -2,7 +2,7 @@ use Rattle.std.proofs.Common.{◌≡◌, ◌∷◌, rules, sym, subst}
 use Rattle.disk_model.specs.Files.{image_of, changed}
 use Rattle.disk_model.specs.Crashes.{IsTaken}
 use Rattle.disk_model.proofs.Outcomes.{on_ok}
-use Rattle.disk_model.proofs.Taken.{taken_sync, taken_removal}
+use Rattle.disk_model.proofs.Crashing.{taken_sync, taken_removal}
 use Rattle.disk_model.proofs.crash.leave_call.Goals as goal
 
 pub returns-in-Sync : goal.returns-in-Sync
