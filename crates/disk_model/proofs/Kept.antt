@@ -1,12 +1,12 @@
 -- What one call more on a journal in memory changes of what a crash may leave.
-use Rattle.std.proofs.Common.{◌≡◌, ◌⊎◌, inl, inr, ℕ, suc, ◌≤◌, List, [], ◌∷◌, ◌++◌, length, Option, None, Some, reverse, refl, sym, ap, ◌∙◌, subst, arith, Vec}
+use Rattle.std.proofs.Common.{◌≡◌, inl, inr, ℕ, ◌≤◌, List, [], ◌∷◌, ◌++◌, length, Option, None, Some, reverse, refl, sym, ap, ◌∙◌, subst, arith, Vec}
 use Rattle.std.proofs.lemmas.List.{reverse-append}
 use Rattle.std.specs.declared.alloc.Global.{Global}
 use Rattle.disk_model.specs.declared.journal_file.JournalFile.{JournalFile}
 use Rattle.disk_model.specs.declared.call.Call.{Call}
 use Rattle.disk_model.specs.declared.call.Call.TheVariants.{Write, Sync, Remove}
 use Rattle.disk_model.specs.Files.{changed}
-use Rattle.disk_model.specs.Images.{Image, content, over, IsTorn, Tears, Goes, Stays, In, Follows, Keeps, Elapses}
+use Rattle.disk_model.specs.Images.{Image, content, over, Tears, Goes, Stays, In, Follows, Keeps, Elapses}
 use Rattle.disk_model.specs.Moments.{Step}
 use Rattle.disk_model.specs.Past.{AreCalls, IsLeft, IsLeftSince, left_now, only_left, read_after}
 

@@ -1,10 +1,10 @@
 -- What a crash leaves of one file doesn't depend on what it leaves of the others.
-use Rattle.std.proofs.Common.{◌≡◌, ◌⊎◌, inl, inr, ℕ, Bool, true, false, cond, List, [], ◌∷◌, length, Option, None, refl, sym, ap, ◌∙◌, subst}
+use Rattle.std.proofs.Common.{◌≡◌, ℕ, true, false, cond, List, [], ◌∷◌, length, Option, None}
 use Rattle.disk_model.specs.declared.journal_file.JournalFile.{JournalFile}
 use Rattle.disk_model.specs.declared.call.Call.{Call}
 use Rattle.disk_model.specs.declared.call.Call.TheVariants.{Write, Sync, Remove}
 use Rattle.disk_model.specs.Images.{Image, Tears, In}
-use Rattle.disk_model.specs.Files.{changed, same_file, same_true, same_self, decide, changed_here, changed_elsewhere}
+use Rattle.disk_model.specs.Files.{same_file}
 use Rattle.disk_model.specs.Past.{IsLeft, read_after}
 
 -- at one file this image, and at the others that one

@@ -1,10 +1,7 @@
 -- Files in memory, by their names.
-use Rattle.std.proofs.Common.{◌≡◌, ◌≢◌, ◌⊎◌, inl, inr, ℕ, zero, suc, Bool, true, false, cond, ◌==◌, List, [], ◌∷◌, ◌++◌, Option, None, Some, refl, sym, ap, ◌∙◌, subst, arith, set, get_or, take, drop, length, ◌≤◌, ◌-◌, Vec}
+use Rattle.std.proofs.Common.{◌≡◌, inl, inr, ℕ, zero, suc, false, cond, List, [], ◌∷◌, ◌++◌, Option, None, refl, sym, ap, ◌∙◌, subst, arith, set, get_or, take, drop, length, ◌≤◌, ◌-◌}
 use Rattle.std.proofs.lemmas.List.{take_all}
-use Rattle.std.proofs.lemmas.Bool.Decides.{nat_tests}
-use Rattle.std.specs.declared.alloc.Global.{Global}
 use Rattle.disk_model.specs.declared.journal_file.JournalFile.{JournalFile}
-use Rattle.disk_model.specs.declared.journal_file.JournalFile.TheVariants.{ManifestA, ManifestB, Log}
 use Rattle.disk_model.specs.declared.stored.Stored.{Stored}
 use Rattle.disk_model.specs.Images.{Image}
 use Rattle.disk_model.specs.Files.{same_file, changed, bytes_of, image_of, IsFirstAt, IsNowhere, decide, same_true, same_self}

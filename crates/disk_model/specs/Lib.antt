@@ -7,6 +7,7 @@ pub mod Names
 pub mod Past
 pub mod Plans
 pub mod Returned
+pub mod ScriptTexts
 pub mod Synced
 pub mod Told
 pub mod Torn

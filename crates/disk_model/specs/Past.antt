@@ -1,7 +1,7 @@
 -- What a journal in memory may leave, told from its calls. The latest call stands first.
-use Rattle.std.specs.Prelude.{◌≡◌, ◌⊎◌, ℕ, suc, ◌≤◌, List, [], ◌∷◌, ◌++◌, length, None, Some, Option}
+use Rattle.std.specs.Prelude.{◌≡◌, ◌⊎◌, ℕ, suc, ◌≤◌, List, [], ◌∷◌, length, None, Some}
 use Rattle.std.specs.Coded.{×_prop, Unit-prop, le_prop}
-use Rattle.std.proofs.Common.{inl, inr, refl, sym, ◌∙◌, subst, arith}
+use Rattle.std.proofs.Common.{inl, inr, refl, sym, subst, arith}
 use Rattle.disk_model.specs.declared.journal_file.JournalFile.{JournalFile}
 use Rattle.disk_model.specs.declared.call.Call.{Call}
 use Rattle.disk_model.specs.declared.call.Call.TheVariants.{Write, Sync, Remove}

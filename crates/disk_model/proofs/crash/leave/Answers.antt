@@ -1,4 +1,4 @@
-use Rattle.std.proofs.Common.{◌≡◌, ◌+◌, reverse, take, length, ap, sym, subst, rules, List}
+use Rattle.std.proofs.Common.{◌≡◌, reverse, take, sym, subst, List}
 use Rattle.std.proofs.lemmas.List.{take_all}
 use Rattle.disk_model.specs.declared.call.Call.{Call}
 use Rattle.disk_model.specs.Files.{image_of}

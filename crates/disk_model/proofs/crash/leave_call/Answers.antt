@@ -1,5 +1,5 @@
-use Rattle.std.proofs.Common.{◌≡◌, ◌∷◌, rules, sym, subst}
-use Rattle.disk_model.specs.Files.{image_of, changed}
+use Rattle.std.proofs.Common.{◌∷◌, sym, subst}
+use Rattle.disk_model.specs.Files.{image_of}
 use Rattle.disk_model.specs.Crashes.{IsTaken}
 use Rattle.disk_model.proofs.Outcomes.{on_ok}
 use Rattle.disk_model.proofs.Crashing.{taken_sync, taken_removal}

@@ -1,4 +1,4 @@
-use Rattle.std.proofs.Common.{◌≡◌, ◌≤◌, length, Some, rules, subst}
+use Rattle.std.proofs.Common.{◌≤◌, length, Some, rules}
 use Rattle.disk_model.specs.Images.{content, over, Tears}
 use Rattle.disk_model.specs.Files.{image_of}
 use Rattle.disk_model.specs.Torn.{tears_over}

@@ -1,4 +1,4 @@
-use Rattle.std.proofs.Common.{sym, ap, ◌∙◌}
+use Rattle.std.proofs.Common.{◌∙◌}
 use Rattle.disk_model.proofs.Names.{copy_first}
 use Rattle.disk_model.proofs.files.+copy_of.Goals as goal
 
