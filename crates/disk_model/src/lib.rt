@@ -31,6 +31,8 @@ mod sink_plans;
 mod sinks;
 mod stored;
 mod taken;
+#[cfg(test)]
+mod tests;
 mod turns;
 
 pub use devices::Devices;
