@@ -8,6 +8,7 @@ use Rattle.disk_model.specs.declared.journal_file.JournalFile.TheVariants.{Manif
 use Rattle.disk_model.specs.declared.stored.Stored.{Stored}
 use Rattle.disk_model.specs.Images.{Image}
 
+-- the two names are one
 abbrev pub same_file : JournalFile → JournalFile → Bool
 same_file ManifestA ManifestA = true
 same_file ManifestB ManifestB = true
@@ -23,6 +24,7 @@ same_file (Log n) ManifestB = false
 abbrev pub changed : JournalFile → Option (List ℕ) → Image → Image
 changed file bytes image other = cond (same_file other file) bytes (image other)
 
+-- the bytes that are kept, or none
 abbrev pub bytes_of : Option (Vec ℕ Global) → Option (List ℕ)
 bytes_of None = None
 bytes_of (Some bytes) = Some bytes.items

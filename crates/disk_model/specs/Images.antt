@@ -11,6 +11,7 @@ abbrev pub content : Option (List ℕ) → List ℕ
 content None = []
 content (Some bytes) = bytes
 
+-- a file that is there has its length as its size
 abbrev pub size_of : Option (List ℕ) → Option ℕ
 size_of None = None
 size_of (Some bytes) = Some (length bytes)
@@ -33,9 +34,11 @@ Tears at n None (Some new) = IsTorn at n [] new
 Tears at n (Some old) None = ⊥
 Tears at n (Some old) (Some new) = IsTorn at n old new
 
+-- the file is as it was
 abbrev pub Stays : Option (List ℕ) → Option (List ℕ) → Type 0
 Stays old new = new ≡ old
 
+-- the file is as it was, or gone
 abbrev pub Goes : Option (List ℕ) → Option (List ℕ) → Type 0
 Goes old new = (new ≡ old) ⊎ (new ≡ None)
 

@@ -5,6 +5,7 @@ use Rattle.std.proofs.Common.{inl, inr, refl, ◌∙◌, arith}
 use Rattle.disk_model.specs.declared.journal_file.JournalFile.{JournalFile}
 use Rattle.disk_model.specs.Images.{Image, Stays, In, Follows, Elapses, Rose}
 
+-- what may become of one file
 abbrev pub Step : Type 1
 Step = Option (List ℕ) → Option (List ℕ) → Type 0
 

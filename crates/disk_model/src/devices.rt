@@ -41,7 +41,7 @@ pub trait Devices {
         ensures steady { steady self.old → steady self.new }
         ensures cause { HasCause (faults self.old) (faults self.new) result };
 
-    /// Hands out the journal, which tells what the devices told of it.
+    /// Hands out the journal, which tells what the devices told of it. What they tell while it is out is open.
     ///
     /// `Failed` comes only where the count of faults rose, and changes nothing that is told.
     fn journal(&mut self) -> Result<Self::J, Failed>
@@ -65,10 +65,12 @@ pub trait Devices {
         ensures faults { faults self.new ≡ faults self.old };
 
     /// What a crash may leave at this moment is what it might have left since an earlier one.
-    ghost counts_now: { (devices : Self) (t : ℕ) (image : Image) → t ≤ moment devices → may_leave devices image → left_since devices t image };
+    ghost counts_now: { (devices : Self) (t : ℕ) (image : Image) → t ≤ moment devices →
+        may_leave devices image → left_since devices t image };
 
     /// Since this moment there is no other.
-    ghost only_now: { (devices : Self) (image : Image) → left_since devices (moment devices) image → may_leave devices image };
+    ghost only_now: { (devices : Self) (image : Image) →
+        left_since devices (moment devices) image → may_leave devices image };
 
     /// What is told of the files is one of the images.
     ghost read_is_left: { (devices : Self) → IsTrue Self.J.tells → may_leave devices (seen devices) };

@@ -49,7 +49,8 @@ pub trait Journal {
     /// empty. It changes no file. `Failed` comes only where the count of faults rose.
     fn read(&mut self, file: JournalFile, at: u64, out: &mut [u8]) -> Result<usize, Failed>
         ensures count { IfOk result (λ n. n ≤ length out.old) }
-        ensures read { IfOk result (λ n. IsTrue tells → take n out.new ≡ take (length out.old) (drop at (content (seen self.old file)))) }
+        ensures read { IfOk result (λ n. IsTrue tells →
+            take n out.new ≡ take (length out.old) (drop at (content (seen self.old file)))) }
         ensures seen { seen self.new ≡ seen self.old }
         ensures images { Follows (In file Stays) (may_leave self.old) (left_since self.new (moment self.old)) }
         ensures time { Elapses (moment self.old) (moment self.new) (left_since self.old) (left_since self.new) }
@@ -63,11 +64,14 @@ pub trait Journal {
     /// made the file, and changes nothing else.
     fn write(&mut self, file: JournalFile, at: u64, bytes: &[u8]) -> Result<(), Failed>
         requires { IsTrue tells → at ≤ length (content (seen self.old file)) }
-        ensures written { OnOk result (IsTrue tells → seen self.new file ≡ Some (over (content (seen self.old file)) at bytes.now)) }
+        ensures written { OnOk result (IsTrue tells →
+            seen self.new file ≡ Some (over (content (seen self.old file)) at bytes.now)) }
         ensures fits { OnOk result (at + length bytes.now < 2 ^ 63) }
-        ensures torn { OnErr result (IsTrue tells → Tears at (length bytes.now) (seen self.old file) (seen self.new file)) }
+        ensures torn { OnErr result (IsTrue tells →
+            Tears at (length bytes.now) (seen self.old file) (seen self.new file)) }
         ensures elsewhere { (other : JournalFile) → other ≢ file → seen self.new other ≡ seen self.old other }
-        ensures images { Follows (In file (Tears at (length bytes.now))) (may_leave self.old) (left_since self.new (moment self.old)) }
+        ensures images { Follows (In file (Tears at (length bytes.now))) (may_leave self.old)
+            (left_since self.new (moment self.old)) }
         ensures time { Elapses (moment self.old) (moment self.new) (left_since self.old) (left_since self.new) }
         ensures steady { steady self.old → steady self.new }
         ensures cause { HasCause (faults self.old) (faults self.new) result };
@@ -99,10 +103,12 @@ pub trait Journal {
         ensures cause { HasCause (faults self.old) (faults self.new) result };
 
     /// What a crash may leave at this moment is what it might have left since an earlier one.
-    ghost counts_now: { (journal : Self) (t : ℕ) (image : Image) → t ≤ moment journal → may_leave journal image → left_since journal t image };
+    ghost counts_now: { (journal : Self) (t : ℕ) (image : Image) → t ≤ moment journal →
+        may_leave journal image → left_since journal t image };
 
     /// Since this moment there is no other.
-    ghost only_now: { (journal : Self) (image : Image) → left_since journal (moment journal) image → may_leave journal image };
+    ghost only_now: { (journal : Self) (image : Image) →
+        left_since journal (moment journal) image → may_leave journal image };
 
     /// What reads give is one of the images.
     ghost read_is_left: { (journal : Self) → IsTrue tells → may_leave journal (seen journal) };
