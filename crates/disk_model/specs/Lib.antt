@@ -1,0 +1,13 @@
+pub mod Bytes
+pub mod Crashes
+pub mod Files
+pub mod Images
+pub mod Moments
+pub mod Names
+pub mod Past
+pub mod Plans
+pub mod Returned
+pub mod ScriptTexts
+pub mod Synced
+pub mod Told
+pub mod Torn
