@@ -67,7 +67,7 @@ impl Tail {
         self.group.extend_from_slice(&(body.len() as u32).to_be_bytes())?;
         self.group.extend_from_slice(body)?;
         self.group.push(0)?;
-        let len = self.len() as u32;
+        let len = (self.group.len() - 5) as u32;
         BigEndian::write_u32(&mut self.group, len);
         Ok(())
     }
