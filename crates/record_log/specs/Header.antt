@@ -1,8 +1,8 @@
 -- The header of a log or manifest file.
 use Rattle.std.specs.Prelude.{◌≡◌, ℕ, ◌+◌, ◌*◌, ◌^◌, ◌<◌, ◌≤◌, List, [], ◌∷◌, ◌++◌}
 use Rattle.byteorder.specs.Endian.{big_bytes}
-use Rattle.disk_model.specs.declared.journal.JournalFile.{JournalFile}
-use Rattle.disk_model.specs.declared.journal.JournalFile.TheVariants.{ManifestA, ManifestB, Log}
+use Rattle.disk_model.specs.declared.journal_file.JournalFile.{JournalFile}
+use Rattle.disk_model.specs.declared.journal_file.JournalFile.TheVariants.{ManifestA, ManifestB, Log}
 use Rattle.peb_base.specs.declared.profile.Profile.{Profile}
 use Rattle.peb_base.specs.declared.profile.Profile.TheVariants.{Normal, Small}
 use Rattle.record_log.specs.declared.header.Header.{Header}

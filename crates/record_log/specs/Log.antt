@@ -1,6 +1,6 @@
 -- The form of a whole file: a header, groups behind open gates, and a closed gate. Nothing behind that is read.
 use Rattle.std.specs.Prelude.{◌≡◌, ◌≢◌, ◌⊎◌, ℕ, ◌+◌, ◌<◌, ◌≤◌, List, [], ◌∷◌, ◌++◌, length, take, get_or, Option, None, Some}
-use Rattle.disk_model.specs.declared.journal.JournalFile.{JournalFile}
+use Rattle.disk_model.specs.declared.journal_file.JournalFile.{JournalFile}
 use Rattle.record_log.specs.declared.header.Header.{Header}
 use Rattle.record_log.specs.Header.{header_bytes, IsHeaderOf}
 use Rattle.record_log.specs.Groups.{groups_bytes, AreGroups, IsNoGroup, placed}

@@ -1,6 +1,6 @@
 -- What the layers above may say of a log file.
 use Rattle.std.specs.Prelude.{◌≤◌, ℕ, ◌+◌, ◌-◌, ◌^◌, List, length, vec_len, vec_capacity}
-use Rattle.disk_model.specs.declared.journal.JournalFile.{JournalFile}
+use Rattle.disk_model.specs.declared.journal_file.JournalFile.{JournalFile}
 use Rattle.record_log.specs.declared.tail.Tail.{Tail}
 use Rattle.record_log.specs.declared.log_file.LogFile.{LogFile}
 use Rattle.record_log.specs.Frame.{records_in}

@@ -2,7 +2,7 @@
 
 ghost use Rattle.std.specs.Prelude.{◌≡◌, ◌≢◌, ◌↔◌, ◌<◌, ◌≤◌, ◌+◌, ◌^◌, ◌++◌, [], List, ℕ, IsTrue, length, IsErrOf, IsOk, IfOk, IfErr, IfSome, IfNone, OnOk, OnErr, Some};
 ghost use Rattle.disk_model.specs.Images.{Follows, In, Stays, Keeps, Elapses, HasCause, Rose};
-ghost use Rattle.disk_model.specs.declared.journal.JournalFile.{JournalFile};
+ghost use Rattle.disk_model.specs.declared.journal_file.JournalFile.{JournalFile};
 ghost use Rattle.record_log.specs.declared.header.Header.{Header};
 ghost use Rattle.record_log.specs.Crash.{Creates};
 ghost use Rattle.record_log.specs.Damage.{AtDamage};
