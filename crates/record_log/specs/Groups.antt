@@ -1,10 +1,10 @@
 -- Groups of records, each behind its gate.
 use Rattle.std.specs.Prelude.{◌≡◌, ◌≢◌, ℕ, ◌+◌, ◌^◌, ◌<◌, List, [], ◌∷◌, ◌++◌, map, length}
-use Rattle.byteorder.specs.Endian.{big_bytes}
+use Rattle.record_log.specs.Counted.{counted_bytes}
 
 -- a record: the length of its body, and the body
 abbrev pub record_bytes : List ℕ → List ℕ
-record_bytes body = big_bytes 4 (length body) ++ body
+record_bytes body = counted_bytes 4 body
 
 -- records one after another
 abbrev pub records_bytes : List (List ℕ) → List ℕ
