@@ -8,6 +8,7 @@ use byteorder::{BigEndian, ByteOrder};
 /// A length of two bytes at the front and that many bytes, and the bytes behind them.
 pub fn counted_by_two(bytes: &[u8]) -> Option<(&[u8], &[u8])>
     ensures found { IfSome result (λ found. bytes.now ≡ counted_bytes 2 found.0.now ++ found.1.now) }
+    ensures small { IfSome result (λ found. length found.0.now < 2 ^ 16) }
     ensures none { IfNone result ((body rest : List ℕ) → length body < 2 ^ 16 → bytes.now ≢ counted_bytes 2 body ++ rest) }
 {
     if bytes.len() < 2 {
