@@ -4,7 +4,9 @@ use Rattle.std.proofs.lemmas.List.{append-nil}
 use Rattle.peb_base.specs.declared.change.Change.{Change}
 use Rattle.peb_base.specs.declared.change.Change.TheVariants.{Put, Delete}
 use Rattle.peb_base.specs.declared.op.Op.{Op}
-use Rattle.record_log.specs.BatchRecord.{kind_of, value_bytes, op_bytes, ops_bytes, IsKey, IsChange, IsOp, AreOps}
+use Rattle.byteorder.specs.Endian.{big_bytes, big_number}
+use Rattle.byteorder.specs.Numbers.{big_number-reads_back}
+use Rattle.record_log.specs.BatchRecord.{batch_bytes, IsBatch, kind_of, value_bytes, op_bytes, ops_bytes, IsKey, IsChange, IsOp, AreOps}
 use Rattle.record_log.specs.Counted.{counted_bytes}
 use Rattle.record_log.proofs.Numbers.{one_counted}
 
@@ -109,3 +111,15 @@ same_ops (x ∷ a) [] are_a are_b counts same = absurd (omega (arith, counts))
 same_ops (x ∷ a) (y ∷ b) are_a are_b counts same =
     let parts = one_op x y (ops_bytes a) (ops_bytes b) are_a.0 are_b.0 same in
     let rest = same_ops a b are_a.1 are_b.1 (omega (arith, counts)) parts.1 in λ i. parts.0 i ∷ rest i
+
+-- a batch's bytes tell it
+pub one_batch : (first second : ℕ) (a b : List Op) → IsBatch first a → IsBatch second b → batch_bytes first a ≡ batch_bytes second b → (first ≡ second) × (a ≡ b)
+one_batch first second a b is_a is_b same =
+    let front : (n : ℕ) (ops : List Op) → batch_bytes n ops ≡ big_bytes 8 n ++ (big_bytes 2 (length ops) ++ ops_bytes ops) = λ n ops. append_assoc (big_bytes 8 n) (big_bytes 2 (length ops)) (ops_bytes ops) in
+    let whole = sym (front first a) ∙ same ∙ front second b in
+    let number : first ≡ second = sym (big_number-reads_back 8 first (big_bytes 2 (length a) ++ ops_bytes a) (omega (arith, is_a.numbers.within))) ∙ ap (big_number 8) whole
+      ∙ big_number-reads_back 8 second (big_bytes 2 (length b) ++ ops_bytes b) (omega (arith, is_b.numbers.within)) in
+    let behind : big_bytes 2 (length a) ++ ops_bytes a ≡ big_bytes 2 (length b) ++ ops_bytes b = ap (drop 8) whole in
+    let counts : length a ≡ length b = sym (big_number-reads_back 2 (length a) (ops_bytes a) (omega (arith, is_a.numbers.few))) ∙ ap (big_number 2) behind
+      ∙ big_number-reads_back 2 (length b) (ops_bytes b) (omega (arith, is_b.numbers.few)) in
+    (number, same_ops a b is_a.each is_b.each counts (ap (drop 2) behind))
