@@ -1,5 +1,5 @@
 -- Operations one after another.
-use Rattle.std.proofs.Common.{◌≡◌, ◌≢◌, ℕ, suc, ◌+◌, ◌-◌, ◌<◌, ◌≤◌, ◌^◌, List, [], ◌∷◌, ◌++◌, length, drop, get_or, refl, sym, ap, ◌∙◌, subst, arith, append_assoc, length-append}
+use Rattle.std.proofs.Common.{◌≡◌, ◌≢◌, ℕ, ◌-◌, ◌<◌, ◌≤◌, List, [], ◌∷◌, ◌++◌, length, drop, get_or, refl, sym, ap, ◌∙◌, arith, append_assoc}
 use Rattle.std.proofs.lemmas.List.{append-nil}
 use Rattle.peb_base.specs.declared.change.Change.{Change}
 use Rattle.peb_base.specs.declared.change.Change.TheVariants.{Put, Delete}
@@ -118,8 +118,8 @@ one_batch first second a b is_a is_b same =
     let front : (n : ℕ) (ops : List Op) → batch_bytes n ops ≡ big_bytes 8 n ++ (big_bytes 2 (length ops) ++ ops_bytes ops) = λ n ops. append_assoc (big_bytes 8 n) (big_bytes 2 (length ops)) (ops_bytes ops) in
     let whole = sym (front first a) ∙ same ∙ front second b in
     let number : first ≡ second = sym (big_number-reads_back 8 first (big_bytes 2 (length a) ++ ops_bytes a) (omega (arith, is_a.numbers.within))) ∙ ap (big_number 8) whole
-      ∙ big_number-reads_back 8 second (big_bytes 2 (length b) ++ ops_bytes b) (omega (arith, is_b.numbers.within)) in
+    ∙ big_number-reads_back 8 second (big_bytes 2 (length b) ++ ops_bytes b) (omega (arith, is_b.numbers.within)) in
     let behind : big_bytes 2 (length a) ++ ops_bytes a ≡ big_bytes 2 (length b) ++ ops_bytes b = ap (drop 8) whole in
     let counts : length a ≡ length b = sym (big_number-reads_back 2 (length a) (ops_bytes a) (omega (arith, is_a.numbers.few))) ∙ ap (big_number 2) behind
-      ∙ big_number-reads_back 2 (length b) (ops_bytes b) (omega (arith, is_b.numbers.few)) in
+    ∙ big_number-reads_back 2 (length b) (ops_bytes b) (omega (arith, is_b.numbers.few)) in
     (number, same_ops a b is_a.each is_b.each counts (ap (drop 2) behind))

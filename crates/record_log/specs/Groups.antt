@@ -1,5 +1,5 @@
 -- Groups of records, each behind its gate.
-use Rattle.std.specs.Prelude.{◌≡◌, ◌≢◌, ℕ, ◌+◌, ◌^◌, ◌<◌, List, [], ◌∷◌, ◌++◌, map, length}
+use Rattle.std.specs.Prelude.{◌≢◌, ℕ, ◌+◌, ◌^◌, ◌<◌, List, [], ◌∷◌, ◌++◌, map, length}
 use Rattle.record_log.specs.Counted.{counted_bytes}
 
 -- a record: the length of its body, and the body

@@ -1,5 +1,5 @@
 -- The form of a whole file: a header, groups behind open gates, and a closed gate. Nothing behind that is read.
-use Rattle.std.specs.Prelude.{◌≡◌, ◌≢◌, ◌⊎◌, ℕ, ◌+◌, ◌<◌, ◌≤◌, List, [], ◌∷◌, ◌++◌, length, take, get_or, Option, None, Some}
+use Rattle.std.specs.Prelude.{◌≡◌, ◌≢◌, ◌⊎◌, ℕ, ◌+◌, ◌<◌, ◌≤◌, List, ◌∷◌, ◌++◌, length, take, get_or, Option, None, Some}
 use Rattle.disk_model.specs.declared.journal_file.JournalFile.{JournalFile}
 use Rattle.record_log.specs.declared.header.Header.{Header}
 use Rattle.record_log.specs.Header.{header_bytes, IsHeaderOf}
@@ -31,7 +31,7 @@ pub record IsDamaged (file : JournalFile) (bytes : List ℕ) (at : ℕ) : Type 0
   pub made : get_or bytes 0 0 ≡ 1
   pub place :
       ((at ≡ 0) × ((header : Header) → IsHeaderOf file header → take 24 bytes ≢ header_bytes header))
-    ⊎ ((header : Header) × (groups : List (List (List ℕ))) × (rest : List ℕ)
+      ⊎ ((header : Header) × (groups : List (List (List ℕ))) × (rest : List ℕ)
       × Splits file bytes header groups (1 ∷ rest) × IsNoGroup (1 ∷ rest) × (at ≡ 24 + length (groups_bytes groups)))
 
 -- the file holds this header, and these records of its groups, each with the place of its group's gate

@@ -38,8 +38,8 @@ impl LogFile {
     /// Creates a file with no group, in place of one that is there. Until `Ok` a crash leaves the file as it was, or one that
     /// `open` doesn't find, or the new one; after it, the new one.
     ///
-    /// The header is one that `open` of this file takes. `Fault` tells that the journal failed; `Memory` comes before any call
-    /// on the journal. Either may leave a file that `open` doesn't find; creating it again is the way on.
+    /// The header is one that `open` of this file takes. `Fault` tells that the journal failed, and leaves any of these three;
+    /// `Memory` comes before any call on the journal. `Damaged` never comes.
     pub fn create<J: Journal>(
         alloc: Global,
         journal: &mut J,

@@ -64,7 +64,8 @@ impl Tail {
     {
         let end = self.group.len() - 1;
         self.group.truncate(end);
-        self.group.extend_from_slice(&(body.len() as u32).to_be_bytes())?;
+        self.group
+            .extend_from_slice(&(body.len() as u32).to_be_bytes())?;
         self.group.extend_from_slice(body)?;
         self.group.push(0)?;
         let len = (self.group.len() - 5) as u32;

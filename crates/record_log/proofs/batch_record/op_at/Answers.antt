@@ -1,4 +1,4 @@
-use Rattle.std.proofs.Common.{◌≡◌, ◌∷◌, ◌++◌, List, ℕ, rules, ◌∙◌, ap}
+use Rattle.std.proofs.Common.{◌≡◌, ◌∷◌, ◌++◌, ℕ, rules, ◌∙◌, ap}
 use Rattle.record_log.specs.Counted.{counted_bytes}
 use Rattle.record_log.proofs.Ops.{no_op_value}
 use Rattle.record_log.proofs.batch_record.op_at.Goals as goal

@@ -1,5 +1,4 @@
-use Rattle.std.proofs.Common.{◌≡◌, ◌∷◌, ◌++◌, [], ◌+◌, ◌-◌, ◌<◌, List, ℕ, length, rules, ◌∙◌, ap, arith, length-append}
-use Rattle.record_log.specs.BatchRecord.{ops_bytes, AreOps}
+use Rattle.std.proofs.Common.{◌≡◌, ◌∷◌, ◌++◌, [], length, rules, ap, arith, length-append}
 use Rattle.record_log.proofs.Ops.{leaves_none, leaves_less, so_far_op, are_ops-push}
 use Rattle.record_log.proofs.Results.{same_error}
 use Rattle.record_log.proofs.batch_record.ops_of.Goals as goal

@@ -1,7 +1,6 @@
-use Rattle.std.proofs.Common.{◌≡◌, ◌<◌, ◌≤◌, ◌+◌, ◌^◌, [], ◌∷◌, ◌++◌, List, ℕ, length, inl, ap, ◌∙◌, arith, Some, rules}
+use Rattle.std.proofs.Common.{◌≡◌, ◌<◌, [], ◌∷◌, ◌++◌, length, inl, ap, ◌∙◌, arith, rules}
 use Rattle.disk_model.specs.Moments.{follows_on, follows_as}
 use Rattle.record_log.specs.Crash.{BeginsWith, HasGate}
-use Rattle.record_log.specs.Groups.{records_bytes}
 use Rattle.record_log.specs.Ready.{IsBeforeOrAfter}
 use Rattle.record_log.specs.State.{log_tail}
 use Rattle.record_log.proofs.Closing.{front_of, length-front, length-begins, begins_ready, begins_log, gate_log, open_log, staged_form, staged_behind, gate_of_begins, length_closed, group_of_tail}
@@ -10,8 +9,7 @@ use Rattle.record_log.proofs.log_file.LogFile.close_group.Goals as goal
 pub put_behind-requires : goal.put_behind-requires
 put_behind-requires g c = λ told.
     let r = c.requires told in
-    let ready = r.2 in
-    (
+    let ready = r.2 in (
       front_of r.0 r.1 ++ ready.form.gate ∷ [],
       length-begins r.0 r.1 ready.form.gate c.args.self.now.place ready.place,
       begins_ready g.J.Journal.tells g.J.Journal.seen g.J.Journal.may_leave c.args.journal.now c.args.self.now r.0 r.1 ready,
@@ -25,8 +23,8 @@ returns-in_err-put_behind-clause-any_moment g c = λ header groups bodies ready 
     let long = length-begins header groups gate c.args.self.now.place ready.place in
     let begins = begins_ready g.J.Journal.tells g.J.Journal.seen g.J.Journal.may_leave c.args.journal.now c.args.self.now header groups ready in
     follows_as file (λ old new. BeginsWith (front ++ gate ∷ []) new) (λ old new. IsBeforeOrAfter file header groups bodies new) _ _
-      (λ old new so. inl (begins_log file header groups ready.form gate new ready.form.closed so))
-      (c.put_behind.ensures.any_moment (front ++ gate ∷ []) long begins.left)
+    (λ old new so. inl (begins_log file header groups ready.form gate new ready.form.closed so))
+    (c.put_behind.ensures.any_moment (front ++ gate ∷ []) long begins.left)
 
 pub open_gate-requires : goal.open_gate-requires
 open_gate-requires g c = λ told.
@@ -49,16 +47,16 @@ returns-in_err-open_gate-clause-any_moment g c = λ header groups bodies ready i
     let some : 0 < length (log_tail c.args.self.now) = search rules in
     let is_group = group_of_tail bodies (log_tail c.args.self.now) is some c.group.ensures.small in
     let staged = staged_form front gate bodies (log_tail c.args.self.now) c.group.result.now (g.J.Journal.seen c.put_behind.new.journal file) is c.group.ensures.group
-      (c.in_ok-put_behind.ensures.written (front ++ gate ∷ []) ready.told long begins.read) in
+    (c.in_ok-put_behind.ensures.written (front ++ gate ∷ []) ready.told long begins.read) in
     let behind = staged_behind bodies staged.0 in
     let place : length front ≡ c.args.self.now.place = omega (arith, length-front header groups, ready.place) in
     follows_on file (λ old new. IsBeforeOrAfter file header groups bodies new) (λ old new. BeginsWith (front ++ gate ∷ []) new) (λ old new. HasGate front behind new)
-      _ _ _ _ _ _ _ _ c.put_behind.ensures.time c.open_gate.ensures.time
-      (λ image now. g.met.J.Journal.counts_now c.put_behind.new.journal _ image c.put_behind.ensures.time.later now)
-      (c.put_behind.ensures.any_moment (front ++ gate ∷ []) long begins.left)
-      (c.open_gate.ensures.any_moment front behind place (λ image left. (gate, c.in_ok-put_behind.ensures.kept image left ∙ staged.1)))
-      (λ old new so. inl (begins_log file header groups ready.form gate new ready.form.closed so))
-      (λ old between new so then. gate_log file header groups ready.form bodies staged.0 new is_group then)
+    _ _ _ _ _ _ _ _ c.put_behind.ensures.time c.open_gate.ensures.time
+    (λ image now. g.met.J.Journal.counts_now c.put_behind.new.journal _ image c.put_behind.ensures.time.later now)
+    (c.put_behind.ensures.any_moment (front ++ gate ∷ []) long begins.left)
+    (c.open_gate.ensures.any_moment front behind place (λ image left. (gate, c.in_ok-put_behind.ensures.kept image left ∙ staged.1)))
+    (λ old new so. inl (begins_log file header groups ready.form gate new ready.form.closed so))
+    (λ old between new so then. gate_log file header groups ready.form bodies staged.0 new is_group then)
 
 pub returns-clause-any_moment : goal.returns-clause-any_moment
 returns-clause-any_moment g c = λ header groups bodies ready is.
@@ -70,16 +68,16 @@ returns-clause-any_moment g c = λ header groups bodies ready is.
     let some : 0 < length (log_tail c.args.self.now) = search rules in
     let is_group = group_of_tail bodies (log_tail c.args.self.now) is some c.group.ensures.small in
     let staged = staged_form front gate bodies (log_tail c.args.self.now) c.group.result.now (g.J.Journal.seen c.put_behind.new.journal file) is c.group.ensures.group
-      (c.in_ok-put_behind.ensures.written (front ++ gate ∷ []) ready.told long begins.read) in
+    (c.in_ok-put_behind.ensures.written (front ++ gate ∷ []) ready.told long begins.read) in
     let behind = staged_behind bodies staged.0 in
     let place : length front ≡ c.args.self.now.place = omega (arith, length-front header groups, ready.place) in
     follows_on file (λ old new. IsBeforeOrAfter file header groups bodies new) (λ old new. BeginsWith (front ++ gate ∷ []) new) (λ old new. HasGate front behind new)
-      _ _ _ _ _ _ _ _ c.put_behind.ensures.time c.open_gate.ensures.time
-      (λ image now. g.met.J.Journal.counts_now c.put_behind.new.journal _ image c.put_behind.ensures.time.later now)
-      (c.put_behind.ensures.any_moment (front ++ gate ∷ []) long begins.left)
-      (c.open_gate.ensures.any_moment front behind place (λ image left. (gate, c.in_ok-put_behind.ensures.kept image left ∙ staged.1)))
-      (λ old new so. inl (begins_log file header groups ready.form gate new ready.form.closed so))
-      (λ old between new so then. gate_log file header groups ready.form bodies staged.0 new is_group then)
+    _ _ _ _ _ _ _ _ c.put_behind.ensures.time c.open_gate.ensures.time
+    (λ image now. g.met.J.Journal.counts_now c.put_behind.new.journal _ image c.put_behind.ensures.time.later now)
+    (c.put_behind.ensures.any_moment (front ++ gate ∷ []) long begins.left)
+    (c.open_gate.ensures.any_moment front behind place (λ image left. (gate, c.in_ok-put_behind.ensures.kept image left ∙ staged.1)))
+    (λ old new so. inl (begins_log file header groups ready.form gate new ready.form.closed so))
+    (λ old between new so then. gate_log file header groups ready.form bodies staged.0 new is_group then)
 
 pub returns-clause-closed : goal.returns-clause-closed
 returns-clause-closed g c = λ header groups bodies ready is.
@@ -91,7 +89,7 @@ returns-clause-closed g c = λ header groups bodies ready is.
     let some : 0 < length (log_tail c.args.self.now) = search rules in
     let is_group = group_of_tail bodies (log_tail c.args.self.now) is some c.group.ensures.small in
     let staged = staged_form front gate bodies (log_tail c.args.self.now) c.group.result.now (g.J.Journal.seen c.put_behind.new.journal file) is c.group.ensures.group
-      (c.in_ok-put_behind.ensures.written (front ++ gate ∷ []) ready.told long begins.read) in
+    (c.in_ok-put_behind.ensures.written (front ++ gate ∷ []) ready.told long begins.read) in
     let behind = staged_behind bodies staged.0 in
     let place : length front ≡ c.args.self.now.place = omega (arith, length-front header groups, ready.place) in
     let opened = c.in_ok-open_gate.ensures.opened front behind ready.told place (gate, staged.1) in

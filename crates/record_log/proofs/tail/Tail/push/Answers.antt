@@ -1,6 +1,6 @@
-use Rattle.std.proofs.Common.{◌≡◌, ◌≤◌, ◌+◌, ◌-◌, ◌^◌, ◌++◌, ◌∷◌, [], length, take, drop, arith, rules, ap, ◌∙◌, length-append}
+use Rattle.std.proofs.Common.{◌≡◌, ◌-◌, ◌++◌, ◌∷◌, [], length, take, drop, arith, rules, ap, ◌∙◌, length-append}
 use Rattle.byteorder.specs.Endian.{big_bytes}
-use Rattle.record_log.specs.Frame.{framed, records_in}
+use Rattle.record_log.specs.Frame.{records_in}
 use Rattle.record_log.specs.Groups.{record_bytes}
 use Rattle.record_log.proofs.Frames.{frame_after, in_frame, is_framed, length-framed, length-framed_in}
 use Rattle.record_log.proofs.Numbers.{length-record}
@@ -17,7 +17,7 @@ invariant_of-self-2 c =
     let ended : c.len-end.result ≡ length tail.group.items = search rules in
     let pushed_len : c.push.new.self.len ≡ length c.push.new.self.items = search rules in
     let new = frame_after tail.group.items c.push.new.self.items c.write_u32.new.buf body (c.len-end.result - 1) c.push.new.self.len (c.len.result - 5) tail.framed
-      (omega (arith, ended, long)) items pushed_len (ap (λ n. n - 5) c.len.ensures) (c.write_u32.ensures ∙ ap (λ l. big_bytes 4 (c.len.result - 5) ++ drop 4 l) c.deref_mut.ensures.value) in
+    (omega (arith, ended, long)) items pushed_len (ap (λ n. n - 5) c.len.ensures) (c.write_u32.ensures ∙ ap (λ l. big_bytes 4 (c.len.result - 5) ++ drop 4 l) c.deref_mut.ensures.value) in
     record { framed = is_framed _ records new; small = omega (arith, ap length new, length-framed records, length-append (records_in tail.group.items) (record_bytes body), length-record body, c.requires.within) }
 
 pub returns-clause-added : goal.returns-clause-added
@@ -31,5 +31,5 @@ returns-clause-added c =
     let ended : c.len-end.result ≡ length tail.group.items = search rules in
     let pushed_len : c.push.new.self.len ≡ length c.push.new.self.items = search rules in
     let new = frame_after tail.group.items c.push.new.self.items c.write_u32.new.buf body (c.len-end.result - 1) c.push.new.self.len (c.len.result - 5) tail.framed
-      (omega (arith, ended, long)) items pushed_len (ap (λ n. n - 5) c.len.ensures) (c.write_u32.ensures ∙ ap (λ l. big_bytes 4 (c.len.result - 5) ++ drop 4 l) c.deref_mut.ensures.value) in
+    (omega (arith, ended, long)) items pushed_len (ap (λ n. n - 5) c.len.ensures) (c.write_u32.ensures ∙ ap (λ l. big_bytes 4 (c.len.result - 5) ++ drop 4 l) c.deref_mut.ensures.value) in
     in_frame _ records new
