@@ -9,7 +9,7 @@ use crate::value_fault::ValueFault;
 use thiserror::Error;
 
 /// Why a batch takes no further operation: the first of these that applies.
-#[derive(Debug, Drop, Error)]
+#[derive(Clone, Copy, Debug, PartialEq, Eq, Error)]
 pub enum BatchFault {
     #[error("more than 1000 operations")]
     TooManyOps,

@@ -1,6 +1,6 @@
 //! Kinds of limits.
 
-ghost use Rattle.std.specs.Prelude.{Some};
+ghost use Rattle.std.specs.Prelude.{◌≡◌, ◌≤◌, length, Some};
 ghost use Rattle.peb_base.specs.Texts.{limit_text};
 
 use std::fmt;
@@ -20,11 +20,13 @@ pub enum LimitKind {
     Script,
 }
 
-impl fmt::Display for LimitKind {
-    ghost output = { λ kind. Some (limit_text kind) };
-
-    fn fmt<W: fmt::Write>(&self, f: &mut fmt::Formatter<W>) -> fmt::Result {
-        f.write_str(match self {
+impl LimitKind {
+    /// The name in lower case.
+    pub fn name(self) -> &'static str
+        ensures name { result.now ≡ limit_text self }
+        ensures short { length result.now ≤ 10 }
+    {
+        match self {
             LimitKind::Openings => "openings",
             LimitKind::Operations => "operations",
             LimitKind::Tables => "tables",
@@ -35,6 +37,14 @@ impl fmt::Display for LimitKind {
             LimitKind::Workers => "workers",
             LimitKind::Snapshots => "snapshots",
             LimitKind::Script => "script",
-        })
+        }
+    }
+}
+
+impl fmt::Display for LimitKind {
+    ghost output = { λ kind. Some (limit_text kind) };
+
+    fn fmt<W: fmt::Write>(&self, f: &mut fmt::Formatter<W>) -> fmt::Result {
+        f.write_str(self.name())
     }
 }

@@ -1,6 +1,6 @@
 //! Profiles.
 
-ghost use Rattle.std.specs.Prelude.{Some};
+ghost use Rattle.std.specs.Prelude.{◌≡◌, Some};
 ghost use Rattle.peb_base.specs.Texts.{profile_text};
 
 use std::fmt;
@@ -14,13 +14,22 @@ pub enum Profile {
     Small,
 }
 
+impl Profile {
+    /// The name in lower case.
+    pub fn name(self) -> &'static str
+        ensures { result.now ≡ profile_text self }
+    {
+        match self {
+            Profile::Normal => "normal",
+            Profile::Small => "small",
+        }
+    }
+}
+
 impl fmt::Display for Profile {
     ghost output = { λ profile. Some (profile_text profile) };
 
     fn fmt<W: fmt::Write>(&self, f: &mut fmt::Formatter<W>) -> fmt::Result {
-        f.write_str(match self {
-            Profile::Normal => "normal",
-            Profile::Small => "small",
-        })
+        f.write_str(self.name())
     }
 }
