@@ -8,8 +8,8 @@ use std::test::Fail;
 
 /// Log 1 of session 1 in the small profile, with one batch: the put of `1` to `a`, numbered 1.1.
 const LOG: [u8; 53] = [
-    1, b'F', b'L', b'S', b'M', b'L', 1, 1, 0, 0, 0, 0, 0, 0, 0, 1, 0, 0, 0, 0, 0, 0, 0, 1, 1, 0, 0, 0,
-    23, 0, 0, 0, 19, 0, 0, 1, 0, 0, 0, 0, 1, 0, 1, 1, 0, 1, b'a', 0, 0, 0, 1, b'1', 0,
+    1, b'F', b'L', b'S', b'M', b'L', 1, 1, 0, 0, 0, 0, 0, 0, 0, 1, 0, 0, 0, 0, 0, 0, 0, 1, 1, 0, 0,
+    0, 23, 0, 0, 0, 19, 0, 0, 1, 0, 0, 0, 0, 1, 0, 1, 1, 0, 1, b'a', 0, 0, 0, 1, b'1', 0,
 ];
 
 /// What opening tells of a file.
@@ -25,12 +25,14 @@ fn opened(alloc: Global, bytes: &[u8]) -> Result<Told, Fail> {
     let devices = MemDevices::new(alloc, Plans::empty(alloc))?;
     let mut devices = devices.with_file(JournalFile::Log(1), bytes)?;
     let mut journal = devices.journal()?;
-    Ok(match LogFile::open(alloc, &mut journal, JournalFile::Log(1)) {
-        Ok(Some(found)) => Told::Records(found.1.len()),
-        Ok(None) => Told::Absent,
-        Err(LogFault::Damaged { at }) => Told::Damaged(at),
-        Err(_) => Told::Failed,
-    })
+    Ok(
+        match LogFile::open(alloc, &mut journal, JournalFile::Log(1)) {
+            Ok(Some(found)) => Told::Records(found.1.len()),
+            Ok(None) => Told::Absent,
+            Err(LogFault::Damaged { at }) => Told::Damaged(at),
+            Err(_) => Told::Failed,
+        },
+    )
 }
 
 #[test]
@@ -127,7 +129,16 @@ fn a_put_and_a_deletion_have_these_bytes(rt: HostRuntime) -> Result<(), Fail> {
 fn bytes_that_spell_no_batch_are_refused(rt: HostRuntime) -> Result<(), Fail> {
     let alloc = rt.alloc();
     // The session, the count in it, the number of operations, the kind, the key's length and the value's.
-    for (at, value) in [(2, 0), (7, 0), (9, 0), (9, 2), (10, 2), (12, 0), (17, 0), (17, 2)] {
+    for (at, value) in [
+        (2, 0),
+        (7, 0),
+        (9, 0),
+        (9, 2),
+        (10, 2),
+        (12, 0),
+        (17, 0),
+        (17, 2),
+    ] {
         let mut body = [
             0, 0, 1, 0, 0, 0, 0, 1, 0, 1, 1, 0, 1, b'a', 0, 0, 0, 1, b'1',
         ];
