@@ -57,6 +57,7 @@ impl LogFile {
         ensures elsewhere { (other : JournalFile) → other ≢ file → J.seen journal.new other ≡ J.seen journal.old other }
         ensures any_moment { IsTrue J.tells → Follows (In file (Creates file header)) (J.may_leave journal.old) (J.left_since journal.new (J.moment journal.old)) }
         ensures time { Elapses (J.moment journal.old) (J.moment journal.new) (J.left_since journal.old) (J.left_since journal.new) }
+        ensures steady { J.steady journal.old → J.steady journal.new }
     {
         let tail = Tail::new(alloc)?;
         begin_file(journal, file)?;
@@ -88,6 +89,7 @@ impl LogFile {
         ensures seen { J.seen journal.new ≡ J.seen journal.old }
         ensures any_moment { Follows (In file Stays) (J.may_leave journal.old) (J.left_since journal.new (J.moment journal.old)) }
         ensures time { Elapses (J.moment journal.old) (J.moment journal.new) (J.left_since journal.old) (J.left_since journal.new) }
+        ensures steady { J.steady journal.old → J.steady journal.new }
     {
         let bytes = match read_whole(alloc, journal, file) {
             Ok(Some(bytes)) => bytes,
@@ -151,6 +153,7 @@ impl LogFile {
             → Follows (In (log_file self.old) (λ old new. IsBeforeOrAfter (log_file self.old) header groups bodies new)) (J.may_leave journal.old) (J.left_since journal.new (J.moment journal.old)) }
         ensures elsewhere { (other : JournalFile) → other ≢ log_file self.old → J.seen journal.new other ≡ J.seen journal.old other }
         ensures time { Elapses (J.moment journal.old) (J.moment journal.new) (J.left_since journal.old) (J.left_since journal.new) }
+        ensures steady { J.steady journal.old → J.steady journal.new }
         ensures cause { HasCause (J.faults journal.old) (J.faults journal.new) result }
         ensures empty { log_tail self.old ≡ [] → IsOk result × (journal.new ≡ journal.old) }
     {
