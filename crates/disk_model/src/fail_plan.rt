@@ -1,0 +1,24 @@
+ghost use Rattle.disk_model.specs.Plans.{IsEmptyPlan};
+
+use std::alloc::Global;
+
+/// Which calls of a form in memory fail: those listed, counted from 1, and all from one on.
+///
+/// A call that fails by its plan does nothing.
+#[derive(Drop)]
+pub struct FailPlan {
+    pub calls: Vec<u64>,
+    pub from: Option<u64>,
+}
+
+impl FailPlan {
+    /// The plan by which no call fails.
+    pub fn empty(alloc: Global) -> FailPlan
+        ensures { IsEmptyPlan result }
+    {
+        FailPlan {
+            calls: Vec::new(alloc),
+            from: None,
+        }
+    }
+}

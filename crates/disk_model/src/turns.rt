@@ -1,0 +1,54 @@
+ghost use Rattle.std.specs.Prelude.{◌≡◌, ◌≤◌, IsOk};
+ghost use Rattle.disk_model.specs.Images.{Rose, HasCause};
+ghost use Rattle.disk_model.specs.Plans.{IsEmptyPlan};
+
+use crate::{FailPlan, Failed};
+
+/// How many calls were made, which are to fail, and how many did.
+#[derive(Drop)]
+pub struct Turns {
+    pub plan: FailPlan,
+    made: u64,
+    pub faults: u64,
+}
+
+impl Turns {
+    pub fn new(plan: FailPlan) -> Turns
+        ensures plan { result.plan ≡ plan }
+        ensures faults { result.faults ≡ 0 }
+    {
+        Turns {
+            plan,
+            made: 0,
+            faults: 0,
+        }
+    }
+
+    /// Counts a fault.
+    pub fn fail(&mut self) -> Failed
+        ensures plan { self.new.plan ≡ self.old.plan }
+        ensures later { self.old.faults ≤ self.new.faults }
+        ensures rose { Rose self.old.faults self.new.faults }
+    {
+        self.faults = self.faults.saturating_add(1);
+        Failed
+    }
+
+    /// Counts a call, and a fault where the plan wants one.
+    pub fn begin(&mut self) -> Result<(), Failed>
+        ensures plan { self.new.plan ≡ self.old.plan }
+        ensures never { IsEmptyPlan self.old.plan → IsOk result }
+        ensures cause { HasCause self.old.faults self.new.faults result }
+    {
+        self.made = self.made.wrapping_add(1);
+        let listed = self.plan.calls.contains(&self.made);
+        let late = match self.plan.from {
+            Some(first) => first <= self.made,
+            None => false,
+        };
+        if listed || late {
+            return Err(self.fail());
+        }
+        Ok(())
+    }
+}
