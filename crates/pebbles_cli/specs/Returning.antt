@@ -1,5 +1,5 @@
 -- How often the sinks that were handed back had failed.
-use Rattle.std.specs.Prelude.{◌≡◌, ℕ, ◌==◌, cond, Option, None, Some, Box}
+use Rattle.std.specs.Prelude.{ℕ, ◌==◌, cond, Option, None, Some, Box}
 use Rattle.std.specs.declared.alloc.Global.{Global}
 use Rattle.pebbles_cli.specs.declared.returned.Returned.{Returned, Returned', Held-Returned-earlier, None', Some'}
 

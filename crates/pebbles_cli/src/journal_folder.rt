@@ -6,11 +6,10 @@ use crate::file_at::{read_at, write_at};
 use disk_model::JournalFile;
 use std::alloc::AllocError;
 use std::fmt::Display;
-use std::fs;
 use std::fs::{File, OpenFile, OpenOptions};
-use std::io;
 use std::io::ErrorKind;
 use std::rt::Files;
+use std::{fs, io};
 
 /// The places of a file lie below this one.
 const PLACES: u64 = 1 << 63;
@@ -93,13 +92,16 @@ impl<R: Files + AllocGlobal + Clone + Drop> JournalFolder<R> {
 
     /// Takes the file away, and makes stable that it isn't there.
     pub fn drop_file(&mut self, file: JournalFile) -> io::Result<()> {
-        self.opened = None;
-        self.names_are_stable = false;
+        if self.has_opened(file) {
+            self.opened = None;
+        }
         let path = self.path_of(file.file_name())?;
         match fs::remove_file(&self.rt, path) {
-            Err(error) if error.kind() != ErrorKind::NotFound => Err(error),
-            _ => self.sync_names(),
+            Ok(()) => self.names_are_stable = false,
+            Err(error) if error.kind() == ErrorKind::NotFound => {}
+            Err(error) => return Err(error),
         }
+        self.sync_names()
     }
 
     /// The path of a name in the directory.
@@ -128,7 +130,11 @@ impl<R: Files + AllocGlobal + Clone + Drop> JournalFolder<R> {
 
     fn open(&self, file: JournalFile) -> io::Result<Option<Opened<R::File>>> {
         let path = self.path_of(file.file_name())?;
-        match OpenOptions::new().read(true).write(true).open(&self.rt, path) {
+        match OpenOptions::new()
+            .read(true)
+            .write(true)
+            .open(&self.rt, path)
+        {
             Ok(handle) => Ok(Some(Opened { file, handle })),
             Err(error) if error.kind() == ErrorKind::NotFound => Ok(None),
             Err(error) => Err(error),

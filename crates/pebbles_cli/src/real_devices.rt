@@ -41,11 +41,7 @@ impl<R: Files + AllocGlobal + Clone + Drop> RealDevices<R> {
             return Err(io::Error::from(ErrorKind::NotFound));
         };
         let folder = JournalFolder::new(self.rt.clone()?, name.clone()?);
-        Ok(RealJournal::new(
-            folder,
-            self.is_trusted,
-            self.journal_faults,
-        ))
+        Ok(RealJournal::new(folder, self.is_trusted, self.journal_faults))
     }
 }
 
