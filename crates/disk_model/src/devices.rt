@@ -1,4 +1,4 @@
-ghost use Rattle.std.specs.Prelude.{◌≡◌, ◌≤◌, ℕ, IsTrue, IfOk, OnErr};
+ghost use Rattle.std.specs.Prelude.{◌≡◌, ◌≤◌, ℕ, IsTrue, IfOk, OnErr, MatchResult};
 ghost use Rattle.disk_model.specs.Images.{Image, HasCause};
 ghost use Rattle.disk_model.specs.Told.{TellsTheSame};
 
@@ -25,6 +25,9 @@ pub trait Devices {
     /// How often a call of the journal has failed.
     ghost journal_faults: { Self → ℕ };
 
+    /// While it holds, the journal's `size` and `read` never fail. It need never hold.
+    ghost steady: { Self → Type 0 };
+
     /// How often `set` or `journal` has failed.
     ghost faults: { Self → ℕ };
 
@@ -35,6 +38,7 @@ pub trait Devices {
         ensures told { TellsTheSame (seen self.old) (seen self.new) (may_leave self.old) (may_leave self.new)
             (moment self.old) (moment self.new) (left_since self.old) (left_since self.new)
             (journal_faults self.old) (journal_faults self.new) }
+        ensures steady { steady self.old → steady self.new }
         ensures cause { HasCause (faults self.old) (faults self.new) result };
 
     /// Hands out the journal, which tells what the devices told of it.
@@ -49,6 +53,7 @@ pub trait Devices {
             TellsTheSame (seen self.old) (seen self.new) (may_leave self.old) (may_leave self.new)
             (moment self.old) (moment self.new) (left_since self.old) (left_since self.new)
             (journal_faults self.old) (journal_faults self.new)) }
+        ensures steady { steady self.old → MatchResult result (λ journal. Self.J.steady journal) (λ _. steady self.new) }
         ensures cause { HasCause (faults self.old) (faults self.new) result };
 
     /// Takes a journal back. The devices then tell of it what it told itself.
@@ -56,6 +61,7 @@ pub trait Devices {
         ensures told { TellsTheSame (Self.J.seen journal) (seen self.new) (Self.J.may_leave journal) (may_leave self.new)
             (Self.J.moment journal) (moment self.new) (Self.J.left_since journal) (left_since self.new)
             (Self.J.faults journal) (journal_faults self.new) }
+        ensures steady { Self.J.steady journal → steady self.new }
         ensures faults { faults self.new ≡ faults self.old };
 
     /// What a crash may leave at this moment is what it might have left since an earlier one.

@@ -1,17 +1,21 @@
-ghost use Rattle.std.specs.Prelude.{◌≡◌, ◌^◌, ◌<◌, ◌≤◌, IfSome, length, take, drop, true, reverse};
+ghost use Rattle.std.specs.Prelude.{◌≡◌, ◌^◌, ◌<◌, ◌≤◌, None, Some, IfSome, IfOk, length, take, drop, true, reverse};
 ghost use Rattle.std.proofs.Props.{props};
 ghost use Rattle.disk_model.specs.declared.journal_file.JournalFile.{JournalFile};
-ghost use Rattle.disk_model.specs.Images.{content, size_of};
-ghost use Rattle.disk_model.specs.Files.{image_of};
-ghost use Rattle.disk_model.specs.Past.{read_after, AreCalls, AreCalls-prop};
+ghost use Rattle.std.specs.Option.{option_copied};
+ghost use Rattle.disk_model.specs.declared.pick.Pick.TheVariants.{Old, New};
+ghost use Rattle.disk_model.specs.Images.{content, size_of, IsAtRest};
+ghost use Rattle.disk_model.specs.Files.{image_of, changed};
+ghost use Rattle.disk_model.specs.Plans.{IsEmptyPlan};
+ghost use Rattle.disk_model.specs.Past.{read_after, kept_after, AreCalls, AreCalls-prop};
 
 use crate::call::Call;
 use crate::calls::{add_removal, add_sync, add_write};
-use crate::files::{copy_from, get};
+use crate::crash::leave;
+use crate::files::{copy_from, copy_of, get, put};
 use crate::stored::Stored;
 use crate::turns::Turns;
-use crate::{Failed, Journal, JournalFile};
-use std::alloc::Global;
+use crate::{FailPlan, Failed, Journal, JournalFile, Pick};
+use std::alloc::{AllocError, Global};
 
 /// A journal in memory. It tells all it holds, and fails by its plan.
 ///
@@ -62,6 +66,8 @@ impl Journal for MemJournal {
 
     ghost faults = { λ m. m.turns.faults };
 
+    ghost steady = { λ m. IsEmptyPlan m.turns.plan };
+
     ghost counts_now = { λ m t image le now. left_now (image_of m.first.items) (reverse m.past.items) t image now };
 
     ghost only_now = { λ m image left. only_left (image_of m.first.items) (reverse m.past.items) image left };
@@ -103,5 +109,86 @@ impl Journal for MemJournal {
             Ok(()) => Ok(()),
             Err(_) => Err(self.turns.fail()),
         }
+    }
+}
+
+impl MemJournal {
+    /// A journal with no file.
+    pub fn new(alloc: Global, plan: FailPlan) -> MemJournal
+        ensures empty { ⟦<MemJournal as Journal>⟧.seen result ≡ (λ _. None) }
+        ensures rests { IsAtRest (⟦<MemJournal as Journal>⟧.seen result) (⟦<MemJournal as Journal>⟧.may_leave result) }
+        ensures faults { ⟦<MemJournal as Journal>⟧.faults result ≡ 0 }
+        ensures steady { IsEmptyPlan plan → ⟦<MemJournal as Journal>⟧.steady result }
+    {
+        MemJournal {
+            alloc,
+            turns: Turns::new(plan),
+            first: Vec::new(alloc),
+            past: Vec::new(alloc),
+            files: Vec::new(alloc),
+        }
+    }
+
+    /// A journal that rests on these files.
+    fn resting(alloc: Global, plan: FailPlan, first: Vec<Stored>) -> Result<MemJournal, AllocError>
+        ensures seen { IfOk result (λ journal. ⟦<MemJournal as Journal>⟧.seen journal ≡ image_of first.items) }
+        ensures rests { IfOk result (λ journal. IsAtRest (⟦<MemJournal as Journal>⟧.seen journal) (⟦<MemJournal as Journal>⟧.may_leave journal)) }
+        ensures faults { IfOk result (λ journal. ⟦<MemJournal as Journal>⟧.faults journal ≡ 0) }
+        ensures steady { IsEmptyPlan plan → IfOk result (λ journal. ⟦<MemJournal as Journal>⟧.steady journal) }
+    {
+        let files = copy_of(alloc, &first)?;
+        Ok(MemJournal {
+            alloc,
+            turns: Turns::new(plan),
+            first,
+            past: Vec::new(alloc),
+            files,
+        })
+    }
+
+    /// The journal after a crash, which rests on one of the images that the crash may leave.
+    pub fn crash(self, pick: Pick) -> Result<MemJournal, AllocError>
+        ensures allowed { IfOk result (λ after. ⟦<MemJournal as Journal>⟧.may_leave self (⟦<MemJournal as Journal>⟧.seen after)) }
+        ensures old { pick ≡ Old → IfOk result (λ after. ⟦<MemJournal as Journal>⟧.seen after ≡ kept_after (image_of self.first.items) (reverse self.past.items)) }
+        ensures new { pick ≡ New → IfOk result (λ after. ⟦<MemJournal as Journal>⟧.seen after ≡ ⟦<MemJournal as Journal>⟧.seen self) }
+        ensures rests { IfOk result (λ after. IsAtRest (⟦<MemJournal as Journal>⟧.seen after) (⟦<MemJournal as Journal>⟧.may_leave after)) }
+        ensures faults { IfOk result (λ after. ⟦<MemJournal as Journal>⟧.faults after ≡ 0) }
+        ensures steady { IfOk result (λ after. ⟦<MemJournal as Journal>⟧.steady after) }
+    {
+        let MemJournal {
+            alloc,
+            turns: _,
+            first,
+            past,
+            files: _,
+        } = self;
+        let left = leave(alloc, pick, first, &past)?;
+        MemJournal::resting(alloc, FailPlan::empty(alloc), left)
+    }
+
+    /// The journal that rests on the files with these bytes in place of one file's.
+    pub fn with_file(self, file: JournalFile, bytes: &[u8]) -> Result<MemJournal, AllocError>
+        ensures seen { IfOk result (λ after.
+            ⟦<MemJournal as Journal>⟧.seen after ≡ changed file (Some bytes.now) (⟦<MemJournal as Journal>⟧.seen self)) }
+        ensures rests { IfOk result (λ after. IsAtRest (⟦<MemJournal as Journal>⟧.seen after) (⟦<MemJournal as Journal>⟧.may_leave after)) }
+        ensures faults { IfOk result (λ after. ⟦<MemJournal as Journal>⟧.faults after ≡ 0) }
+        ensures steady { ⟦<MemJournal as Journal>⟧.steady self → IfOk result (λ after. ⟦<MemJournal as Journal>⟧.steady after) }
+    {
+        let MemJournal {
+            alloc,
+            turns,
+            first: _,
+            past: _,
+            mut files,
+        } = self;
+        put(&mut files, file, Some(bytes.to_vec(alloc)?))?;
+        MemJournal::resting(alloc, turns.into_plan(), files)
+    }
+
+    /// The file's bytes as reads give them.
+    pub fn bytes_of(&self, file: JournalFile) -> Option<&[u8]>
+        ensures { option_copied result ≡ ⟦<MemJournal as Journal>⟧.seen self.now file }
+    {
+        get(&self.files, file)
     }
 }

@@ -51,4 +51,10 @@ impl Turns {
         }
         Ok(())
     }
+
+    pub fn into_plan(self) -> FailPlan
+        ensures { result ≡ self.plan }
+    {
+        self.plan
+    }
 }

@@ -1,4 +1,4 @@
-use Rattle.std.proofs.Common.{◌≡◌, ◌≤◌, ◌++◌, ◌∷◌, [], Option, Some, List, ℕ, length, rules, ap, ◌∙◌, sym, subst}
+use Rattle.std.proofs.Common.{◌≡◌, ◌≤◌, ◌++◌, ◌∷◌, [], Option, Some, List, ℕ, length, rules, ap, ◌∙◌, subst}
 use Rattle.disk_model.specs.Images.{content, over}
 use Rattle.disk_model.specs.Files.{image_of}
 use Rattle.disk_model.proofs.Names.{first_bytes, set_step, set_same, push_step, nowhere}

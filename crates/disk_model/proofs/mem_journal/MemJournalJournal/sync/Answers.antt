@@ -1,4 +1,4 @@
-use Rattle.std.proofs.Common.{reverse, refl}
+use Rattle.std.proofs.Common.{refl}
 use Rattle.disk_model.specs.Files.{image_of}
 use Rattle.disk_model.specs.Images.{Stays}
 use Rattle.disk_model.specs.declared.call.Call.TheVariants.{Sync}

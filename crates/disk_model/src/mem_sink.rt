@@ -1,0 +1,22 @@
+use crate::returned::Returned;
+use crate::taken::Taken;
+use crate::{Failed, Sink};
+
+/// The sink of one client in memory. It brings the place in which it is kept once it is handed back.
+#[derive(Drop)]
+pub struct MemSink {
+    pub taken: Taken,
+    pub place: Box<Returned>,
+}
+
+impl Sink for MemSink {
+    ghost use Rattle.std.specs.Prelude.{Some};
+
+    ghost taken = { λ s. Some s.taken.bytes.items };
+
+    ghost faults = { λ s. s.taken.faults };
+
+    fn put(&mut self, bytes: &[u8]) -> Result<(), Failed> {
+        self.taken.put(bytes)
+    }
+}
