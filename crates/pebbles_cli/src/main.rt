@@ -6,11 +6,15 @@ mod file_at;
 mod journal_folder;
 mod real_devices;
 mod real_journal;
+#[cfg(test)]
+mod real_journal_tests;
 mod real_scripts;
 mod real_sink;
 mod real_sinks;
 mod returned;
 mod stand_in;
+#[cfg(test)]
+mod watched;
 
 use crate::real_devices::RealDevices;
 use crate::real_scripts::RealScripts;

@@ -60,6 +60,8 @@ impl<R: Files<File: Send> + AllocGlobal + Clone + Drop + Send> Devices for RealD
 
     ghost faults = { λ devices. devices.faults.count };
 
+    ghost steady = { λ _. ⊥ };
+
     ghost counts_now = { λ devices t image le now. now };
 
     ghost only_now = { λ devices image left. left };

@@ -46,6 +46,8 @@ impl<R: Files + AllocGlobal + Clone + Drop> Journal for RealJournal<R> {
 
     ghost faults = { λ journal. journal.faults.count };
 
+    ghost steady = { λ _. ⊥ };
+
     ghost counts_now = { λ journal t image le now. now };
 
     ghost only_now = { λ journal image left. left };

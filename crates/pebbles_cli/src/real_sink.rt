@@ -14,7 +14,7 @@ use std::io::Write;
 pub struct RealSink<F> {
     pub file: F,
     pub faults: Faults,
-    /// Room for what is kept of the sink when it is handed back.
+    /// The place in which its count is kept once it is handed back.
     pub place: Box<Returned>,
 }
 

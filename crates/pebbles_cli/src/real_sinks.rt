@@ -1,21 +1,21 @@
 //! Replies and the report to real files and to the standard output.
 
 ghost use Rattle.std.specs.Prelude.{◌≡◌, None, IfOk};
-ghost use Rattle.pebbles_cli.specs.Returning.{faults_of};
+ghost use Rattle.pebbles_cli.specs.Returning.{failed_by};
 
 use crate::faults::Faults;
 use crate::real_sink::RealSink;
 use crate::returned::Returned;
 use disk_model::{Failed, Sinks};
 use std::fs::File;
-use std::io;
 use std::rt::Files;
+use std::{io, mem};
 
 /// Replies to real files, and the report to the standard output. They tell nothing of what was taken.
 #[derive(Drop)]
 pub struct RealSinks<R: Files + Print + AllocGlobal + Clone + Drop> {
     rt: R,
-    returned: Option<Box<Returned>>,
+    returned: Returned,
     faults: Faults,
 }
 
@@ -24,22 +24,17 @@ impl<R: Files + Print + AllocGlobal + Clone + Drop> RealSinks<R> {
     pub fn new(rt: R) -> RealSinks<R> {
         RealSinks {
             rt,
-            returned: None,
+            returned: Returned::Nothing,
             faults: Faults::none(),
         }
     }
 
     /// Makes the file, or empties it.
-    fn open(&self, index: u32, name: &str) -> io::Result<RealSink<R::File>>
+    fn open(&self, name: &str) -> io::Result<RealSink<R::File>>
         ensures unused { IfOk result (λ sink. sink.faults.count ≡ 0) }
     {
-        let none = Returned {
-            index,
-            faults: 0,
-            earlier: None,
-        };
         Ok(RealSink {
-            place: Box::new(self.rt.alloc(), none)?,
+            place: Box::new(self.rt.alloc(), Returned::Nothing)?,
             file: File::create(&self.rt, name)?,
             faults: Faults::none(),
         })
@@ -53,12 +48,12 @@ impl<R: Files<File: Send> + Print + AllocGlobal + Clone + Drop> Sinks for RealSi
 
     ghost took = { λ _ _. None };
 
-    ghost client_faults = { λ sinks client. faults_of sinks.returned client };
+    ghost client_faults = { λ sinks. failed_by sinks.returned };
 
     ghost faults = { λ sinks. sinks.faults.count };
 
-    fn client(&mut self, index: u32, name: &str) -> Result<RealSink<R::File>, Failed> {
-        let opened = self.open(index, name);
+    fn client(&mut self, _index: u32, name: &str) -> Result<RealSink<R::File>, Failed> {
+        let opened = self.open(name);
         self.faults.told(opened)
     }
 
@@ -68,10 +63,12 @@ impl<R: Files<File: Send> + Print + AllocGlobal + Clone + Drop> Sinks for RealSi
     }
 
     fn back(&mut self, index: u32, one: RealSink<R::File>) {
-        let mut place = one.place;
-        place.index = index;
-        place.faults = one.faults.count;
-        place.earlier = self.returned.take();
-        self.returned = Some(place);
+        let RealSink {
+            faults,
+            mut place,
+            ..
+        } = one;
+        *place = mem::replace(&mut self.returned, Returned::Nothing);
+        self.returned = Returned::Sink(index, faults.count, place);
     }
 }

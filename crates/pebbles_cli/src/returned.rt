@@ -1,9 +1,6 @@
-//! What is kept of sinks that were handed back.
-
-/// How often a client's sink had failed when it was handed back, and what was kept of those handed back before.
+/// How often the clients' sinks had failed that were handed back, the latest first.
 #[derive(Drop)]
-pub struct Returned {
-    pub index: u32,
-    pub faults: u64,
-    pub earlier: Option<Box<Returned>>,
+pub enum Returned {
+    Nothing,
+    Sink(u32, u64, Box<Returned>),
 }
