@@ -81,6 +81,7 @@ impl LogFile {
         file: JournalFile,
     ) -> Result<Option<(Header, Vec<Record>)>, LogFault>
         ensures found { IfOk result (λ found. IfSome found (λ log. IsTrue J.tells → Holds file log.0 (views log.1.items) (J.seen journal.old file))) }
+        ensures header { IfOk result (λ found. IfSome found (λ log. IsHeaderOf file log.0)) }
         ensures absent { IfOk result (λ found. IfNone found (IsTrue J.tells → IsUnfinished (J.seen journal.old file))) }
         ensures damaged { IfErr result (λ fault. IsTrue J.tells → AtDamage fault (λ at. (bytes : List ℕ) × (J.seen journal.old file ≡ Some bytes) × IsDamaged file bytes at)) }
         ensures fault { IsErrOf result LogFault.Fault → Rose (J.faults journal.old) (J.faults journal.new) }

@@ -1,0 +1,9 @@
+pub mod PairLemmas
+pub mod Orders
+pub mod Spelled
+pub mod Held
+pub mod Images
+pub mod At
+pub mod Replays
+pub mod Founds
+pub mod Openings

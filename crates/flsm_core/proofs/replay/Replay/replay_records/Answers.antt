@@ -1,0 +1,44 @@
+use Rattle.std.proofs.Common.{◌≡◌, ◌++◌, ◌∷◌, [], ℕ, take, sym, ap, ◌∙◌, subst, append_assoc, refl, inl, inr}
+use Rattle.std.proofs.lemmas.List.{append-nil, take_all}
+use Rattle.peb_base.specs.Batches.{Batches}
+use Rattle.record_log.specs.Records.{bodies_of}
+use Rattle.flsm_core.specs.declared.replay_fault.ReplayFault.{ReplayFault}
+use Rattle.flsm_core.specs.declared.replay_fault.ReplayFault.TheVariants as replays
+use Rattle.flsm_core.specs.Logs.{AreRecords}
+use Rattle.flsm_core.specs.Opening.{IsReplayOf, CantGoOn, OnDamage}
+use Rattle.flsm_core.proofs.Replays.{one_more_record, cant_finish, bodies_step, bodies_split}
+use Rattle.flsm_core.proofs.replay.Replay.replay_records.Goals as goal
+
+pub loop-item-init : goal.loop-item-init
+loop-item-init c = record {
+  so_far = λ batches replay. ([], record { records = refl; each = tt }, subst (λ (bs : Batches). IsReplayOf c.args.self.now bs) (sym (append-nil batches)) replay);
+  here = inl refl;
+}
+
+pub loop-item-preserved : goal.loop-item-preserved
+loop-item-preserved c = record {
+  so_far = λ batches replay.
+    let before = c.loop-item.invariant.so_far batches replay in
+    let more = c.in-Ok.ensures.ok (batches ++ before.0) before.2 in
+    let bodies = bodies_step c.args.items.now c.loop-item.item-index c.item-item.result c.loop-item-test.true c.item-item.is in
+    ( before.0 ++ more.0 ∷ []
+    , subst (λ bs. AreRecords c.args.session bs (before.0 ++ more.0 ∷ [])) (sym bodies) (one_more_record c.args.session _ _ before.0 more.0 before.1 more.1 more.2)
+    , subst (λ (bs : Batches). IsReplayOf c.replay_record.new.self bs) (append_assoc batches before.0 (more.0 ∷ [])) more.3 );
+  here = inr c.in-Ok.ensures.here;
+}
+
+on_damage : (fault : ReplayFault) (P Q : Type 0) → (P → Q) → OnDamage fault P → OnDamage fault Q
+on_damage (replays.Damaged at) P Q f p = f p
+on_damage replays.Memory P Q f p = tt
+
+pub returns-in-Err-clause-damaged : goal.returns-in-Err-clause-damaged
+returns-in-Err-clause-damaged c = on_damage c.in-Err.fault _ _ (λ cant batches replay.
+    let before = c.loop-item.invariant.so_far batches replay in
+    let split = bodies_split c.args.items.now c.loop-item.item-index c.item-item.result c.loop-item-test.true c.item-item.is in
+    subst (λ bs. CantGoOn c.args.session batches bs) (sym split) (cant_finish c.one_batch.ensures c.args.session batches before.0 _ _ _ before.1 (cant (batches ++ before.0) before.2)))
+    c.in-Err.ensures.damaged
+
+pub returns-clause-ok : goal.returns-clause-ok
+returns-clause-ok c = λ batches replay.
+    let all = c.loop-item.invariant.so_far batches replay in
+    (all.0, subst (λ bs. AreRecords c.args.session (bodies_of bs) all.0) (take_all c.loop-item.item-index c.args.items.now c.loop-item-test.false) all.1, all.2)

@@ -1,0 +1,6 @@
+pub mod Device
+pub mod Logs
+pub mod Opening
+pub mod Pairs
+pub mod Place
+pub mod Standing

@@ -1,0 +1,101 @@
+-- What an opening reads, and why it is refused.
+use Rattle.std.specs.Prelude.{◌≡◌, ◌≢◌, ℕ, suc, ◌<◌, ◌≤◌, None, Bool, true, false, IsTrue, List, [], ◌∷◌, ◌++◌, length}
+use Rattle.std.specs.List.{AllByRecursion}
+use Rattle.peb_base.specs.declared.file_name.FileName.{FileName}
+use Rattle.peb_base.specs.declared.file_name.FileName.TheVariants as names
+use Rattle.peb_base.specs.declared.limit_kind.LimitKind.TheVariants as kinds
+use Rattle.peb_base.specs.declared.profile.Profile.{Profile}
+use Rattle.peb_base.specs.Batches.{Batches, last_number, are_in_order}
+use Rattle.peb_base.specs.Map.{map_at}
+use Rattle.disk_model.specs.declared.journal_file.JournalFile.TheVariants.{Log}
+use Rattle.disk_model.specs.Images.{Image, Elapses, Keeps}
+use Rattle.record_log.specs.declared.header.Header.{Header}
+use Rattle.record_log.specs.declared.log_fault.LogFault.{LogFault}
+use Rattle.record_log.specs.declared.log_fault.LogFault.TheVariants as logs
+use Rattle.record_log.specs.Log.{IsLog}
+use Rattle.flsm_core.specs.declared.open_fault.OpenFault.{OpenFault}
+use Rattle.flsm_core.specs.declared.open_fault.OpenFault.TheVariants as opens
+use Rattle.flsm_core.specs.declared.replay_fault.ReplayFault.{ReplayFault}
+use Rattle.flsm_core.specs.declared.replay_fault.ReplayFault.TheVariants as replays
+use Rattle.flsm_core.specs.declared.replay.Replay.{Replay}
+use Rattle.flsm_core.specs.declared.found.Found.{Found}
+use Rattle.flsm_core.specs.Device.{Device}
+use Rattle.flsm_core.specs.Logs.{Held, HoldsLogs, AreRecords, SpellsAll, Reads, Stands, greatest_session}
+
+-- what an opening rests on: each image that a crash may leave stands for the base, or at least what reads give does
+abbrev pub OpensOn : Bool → Batches → Image → (Image → Type 0) → Type 0
+OpensOn true base seen may_leave = (image : Image) → may_leave image → Stands base image
+OpensOn false base seen may_leave = Stands base seen
+
+-- no batches are read of the image: some log isn't in its form
+abbrev pub IsUnreadable : Image → Type 0
+IsUnreadable image = (logs : List Held) (batches : Batches) → Reads image logs batches → ⊥
+
+-- the image has a log whose header is so
+abbrev pub HasLog : Image → (Header → Type 0) → Type 0
+HasLog image P = (n : ℕ) × (header : Header) × (groups : List (List (List ℕ))) × IsLog (Log n) header groups (image (Log n)) × P header
+
+-- why an opening was refused, where the journal rose, and where it tells what it held
+abbrev pub OpenCause : Type 0 → Bool → Image → Profile → OpenFault → Type 0
+OpenCause rose tells seen profile opens.Journal = rose
+OpenCause rose tells seen profile (opens.Damaged file at) = (n : ℕ) × (file ≡ names.Log n) × (IsTrue tells → IsUnreadable seen)
+OpenCause rose tells seen profile (opens.Profile have asked) =
+    (asked ≡ profile) × (have ≢ profile) × (IsTrue tells → HasLog seen (λ header. header.profile ≡ have))
+OpenCause rose tells seen profile (opens.Limit kind n) =
+    (kind ≡ kinds.Openings) × (n ≡ 8388607) × (IsTrue tells → HasLog seen (λ header. 8388607 ≤ header.session))
+OpenCause rose tells seen profile opens.Memory = Unit {0}
+
+-- ---- the reading of logs, one after another
+
+-- what was replayed is the map of these batches
+pub record IsReplayOf (replay : Replay) (batches : Batches) : Type 0 where
+  pub ordered : are_in_order batches ≡ true
+  pub last : replay.last ≡ last_number batches
+  pub current : replay.current ≡ map_at batches (last_number batches)
+
+-- no batches that these records spell go on after those
+abbrev pub CantGoOn : ℕ → Batches → List (List ℕ) → Type 0
+CantGoOn session batches bodies = (own : Batches) → AreRecords session bodies own → are_in_order (batches ++ own) ≡ true → ⊥
+
+-- P, where damage is what the fault tells
+abbrev pub OnDamage : ReplayFault → Type 0 → Type 0
+OnDamage (replays.Damaged at) P = P
+OnDamage replays.Memory P = Unit {0}
+
+-- these logs were found, in this profile, and they spell these batches
+pub record IsFound (profile : Profile) (found : Found) (logs : List Held) (batches : Batches) : Type 0 where
+  pub spelled : SpellsAll logs batches
+  pub replay : IsReplayOf found.replay batches
+  pub greatest : found.greatest ≡ greatest_session logs
+  pub count : found.logs ≡ length logs
+  pub same : AllByRecursion (λ log. log.header.profile ≡ profile) logs
+
+-- only reads and syncs came between: what reads give is the same, and each image since then has the logs of one of before
+pub record HasWatched {D : Type 0} (d : Device D) (old new : D) : Type 0 where
+  pub seen : d.seen new ≡ d.seen old
+  pub time : Elapses (d.moment old) (d.moment new) (d.left_since old) (d.left_since new)
+  pub each : (image : Image) → d.left_since new (d.moment old) image → (before : Image) × d.may_leave old before × ((m : ℕ) → image (Log m) ≡ before (Log m))
+
+-- a crash leaves the logs 1 to n as reads give them
+abbrev pub AreKept : {D : Type 0} → Device D → D → ℕ → Type 0
+AreKept d journal n = (m : ℕ) → 1 ≤ m → m ≤ n → Keeps (Log m) (d.seen journal (Log m)) (d.may_leave journal)
+
+-- why the next log wasn't taken in, where P says that its records can't go on
+abbrev pub AddCause : Profile → ℕ → Header → Type 0 → OpenFault → Type 0
+AddCause profile number header P opens.Journal = ⊥
+AddCause profile number header P (opens.Damaged file at) = (file ≡ names.Log number) × P
+AddCause profile number header P (opens.Profile have asked) = (have ≡ header.profile) × (asked ≡ profile) × (have ≢ profile)
+AddCause profile number header P (opens.Limit kind n) = (kind ≡ kinds.Openings) × (n ≡ 8388607) × (8388607 ≤ header.session)
+AddCause profile number header P opens.Memory = Unit {0}
+
+-- what was read of the logs, once they were synced: a crash leaves them so
+pub record Quiet {D : Type 0} (d : Device D) (journal : D) (honest : Bool) (logs : List Held) (batches : Batches) : Type 0 where
+  pub reads : Reads (d.seen journal) logs batches
+  pub none_above : (m : ℕ) → suc (length logs) < m → d.seen journal (Log m) ≡ None
+  pub only : IsTrue honest → (image : Image) → d.may_leave journal image → (m : ℕ) → 0 < m → image (Log m) ≡ d.seen journal (Log m)
+
+-- what the fault of a log means to an opening
+abbrev pub fault_of : ℕ → LogFault → OpenFault
+fault_of number logs.Fault = opens.Journal
+fault_of number (logs.Damaged at) = opens.Damaged (names.Log number) at
+fault_of number logs.Memory = opens.Memory

@@ -1,0 +1,146 @@
+ghost use Rattle.std.specs.Prelude.{◌≡◌, ◌≤◌, ◌<◌, ◌+◌, ◌*◌, ◌^◌, ℕ, suc, Bool, false, true, [], ◌++◌, ◌∷◌, List, IsTrue, length, IfOk, IfErr, OnOk, MatchBool};
+ghost use Rattle.peb_base.specs.Batches.{Batches, last_number};
+ghost use Rattle.disk_model.specs.Images.{Image, Follows, In, Stays, Elapses, Keeps, HasCause, Rose};
+ghost use Rattle.disk_model.specs.declared.journal_file.JournalFile.TheVariants.{Log};
+ghost use Rattle.record_log.specs.Log.{IsUnfinished};
+ghost use Rattle.flsm_core.specs.Device.{device};
+ghost use Rattle.flsm_core.specs.Logs.{Held, HoldsLogs, BeginsLogs, Stands, greatest_session};
+ghost use Rattle.flsm_core.specs.Opening.{fault_of, IsFound, HasWatched, AreKept, OpenCause};
+ghost use Rattle.flsm_core.specs.Place.{Place, all_of, opened};
+
+use crate::found::Found;
+use crate::open_fault::OpenFault;
+use crate::state::State;
+use disk_model::{Journal, JournalFile};
+use peb_base::{FileName, Profile};
+use record_log::{Header, LogFault, LogFile, one_batch, one_reading};
+use std::alloc::Global;
+
+/// What the fault of a log means to an opening.
+fn fault_of(number: u64, fault: LogFault) -> OpenFault
+    ensures { result ≡ fault_of number fault }
+{
+    match fault {
+        LogFault::Fault => OpenFault::Journal,
+        LogFault::Damaged { at } => OpenFault::Damaged(FileName::Log(number), at),
+        LogFault::Memory => OpenFault::Memory,
+    }
+}
+
+/// Reads the next log, and tells whether there was one.
+fn next_log<J: Journal>(
+    alloc: Global,
+    journal: &mut J,
+    profile: Profile,
+    found: Found,
+) -> Result<(Found, bool), OpenFault>
+    ensures count { IfOk result (λ step. step.1 ≡ true → step.0.logs ≡ found.logs + 1) }
+    ensures more { IfOk result (λ step. step.1 ≡ true → (logs : List Held) (batches : Batches) → IsFound profile found logs batches → (IsTrue J.tells → BeginsLogs 1 logs (J.seen journal.old))
+        → (log : Held) × (own : Batches) × IsFound profile step.0 (logs ++ log ∷ []) (batches ++ own) × (IsTrue J.tells → BeginsLogs 1 (logs ++ log ∷ []) (J.seen journal.old))) }
+    ensures done { IfOk result (λ step. step.1 ≡ false → (step.0 ≡ found) × (IsTrue J.tells → IsUnfinished (J.seen journal.old (Log (found.logs + 1))))) }
+    ensures cause { IfErr result (λ fault. (logs : List Held) (batches : Batches) → IsFound profile found logs batches → (IsTrue J.tells → BeginsLogs 1 logs (J.seen journal.old))
+        → OpenCause (Rose (J.faults journal.old) (J.faults journal.new)) J.tells (J.seen journal.old) profile fault) }
+    ensures watched { HasWatched (device J.tells J.seen J.may_leave J.moment J.left_since) journal.old journal.new }
+    ensures kept { OnOk result (Keeps (Log (found.logs + 1)) (J.seen journal.old (Log (found.logs + 1))) (J.may_leave journal.new)) }
+    ensures later { J.faults journal.old ≤ J.faults journal.new }
+{
+    one_reading();
+    one_batch();
+    let number = found.logs + 1;
+    let (header, records) = match LogFile::open(alloc, journal, JournalFile::Log(number)) {
+        Ok(Some(log)) => log,
+        Ok(None) => return Ok((found, false)),
+        Err(fault) => return Err(fault_of(number, fault)),
+    };
+    match found.add_log(alloc, profile, &header, &records) {
+        Ok(found) => Ok((found, true)),
+        Err(fault) => Err(fault),
+    }
+}
+
+/// Reads the logs from 1 on up to the first absent one, and syncs each before it is read.
+fn read_logs<J: Journal>(alloc: Global, journal: &mut J, profile: Profile) -> Result<Found, OpenFault>
+    ensures found { IfOk result (λ found. (logs : List Held) × (batches : Batches) × IsFound profile found logs batches × (IsTrue J.tells → HoldsLogs 1 logs (J.seen journal.old))) }
+    ensures kept { IfOk result (λ found. AreKept (device J.tells J.seen J.may_leave J.moment J.left_since) journal.new (found.logs + 1)) }
+    ensures cause { IfErr result (OpenCause (Rose (J.faults journal.old) (J.faults journal.new)) J.tells (J.seen journal.old) profile) }
+    ensures watched { HasWatched (device J.tells J.seen J.may_leave J.moment J.left_since) journal.old journal.new }
+    ensures later { J.faults journal.old ≤ J.faults journal.new }
+{
+    let mut found = Found::new(alloc);
+    for number in 1..u64::MAX {
+        let (next, more) = match next_log(alloc, journal, profile, found) {
+            Ok(step) => step,
+            Err(fault) => return Err(fault),
+        };
+        if !more {
+            return Ok(next);
+        }
+        found = next;
+    }
+    unreachable!()
+}
+
+impl<J: Journal> State<J> {
+    ghost use Rattle.flsm_core.specs.Opening.{OpensOn, Quiet};
+    ghost use Rattle.flsm_core.specs.Standing.{IsAt, IsSound, Leaves, session_of_state, faults_of_state};
+
+    /// Creates the next log over what was read.
+    fn begin(alloc: Global, journal: J, profile: Profile, found: Found) -> Result<State<J>, (OpenFault, J)>
+        ensures stands { IfOk result (λ state. (start : ℕ) (honest : Bool) (logs : List Held) (batches : Batches) → start ≤ J.moment journal → IsFound profile found logs batches
+            → (IsTrue J.tells → Quiet (device J.tells J.seen J.may_leave J.moment J.left_since) journal honest logs batches)
+            → (IsTrue J.tells → IsTrue honest → (image : Image) → J.left_since journal start image → Stands batches image)
+            → IsAt (device J.tells J.seen J.may_leave J.moment J.left_since) state (opened start honest batches)) }
+        ensures sound { IfOk result (λ state. IsSound (device J.tells J.seen J.may_leave J.moment J.left_since) state) }
+        ensures session { IfOk result (λ state. session_of_state state ≡ found.greatest + 1) }
+        ensures later { IfOk result (λ state. J.faults journal ≤ faults_of_state J.faults state) }
+        ensures cause { IfErr result (λ e. OpenCause (Rose (J.faults journal) (J.faults e.1)) J.tells (J.seen journal) profile e.0) }
+        ensures later_err { IfErr result (λ e. J.faults journal ≤ J.faults e.1) }
+        ensures images { IfErr result (λ e. IsTrue J.tells → (logs : List Held) (batches : Batches) → IsFound profile found logs batches
+            → Quiet (device J.tells J.seen J.may_leave J.moment J.left_since) journal true logs batches
+            → (image : Image) → J.may_leave e.1 image → Stands batches image) }
+    {
+        let session = found.greatest + 1;
+        let number = found.logs + 1;
+        let header = Header::of_log(profile, number, session);
+        let mut journal = journal;
+        match LogFile::create(alloc, &mut journal, JournalFile::Log(number), header) {
+            Ok(log) => Ok(State {
+                alloc,
+                journal,
+                log,
+                current: found.replay.current,
+                session: session as u32,
+                last: found.replay.last,
+                stopped: false,
+            }),
+            Err(fault) => Err((fault_of(number, fault), journal)),
+        }
+    }
+
+    /// Opens the store whose logs the journal holds: reads the logs from 1 on up to the first absent one, in order, and begins a new
+    /// session with the next log. Each log is synced before it is read, also the absent one.
+    ///
+    /// The session is 1 + the greatest in a header. `Journal` comes only where the journal failed; `Damaged` only where a log isn't in
+    /// its form, or its batches don't go on after those before; `Profile` only where a log has another profile than the one asked for;
+    /// `Limit` only where no session is left. A refusal hands the journal back, and every crash leaves the batches that were there.
+    pub fn open(alloc: Global, journal: J, profile: Profile) -> Result<State<J>, (OpenFault, J)>
+        ensures stands { IfOk result (λ state. IsTrue J.tells → (honest : Bool) (base : Batches) → OpensOn honest base (J.seen journal) (J.may_leave journal)
+            → IsAt (device J.tells J.seen J.may_leave J.moment J.left_since) state (opened (J.moment journal) honest base)) }
+        ensures sound { IfOk result (λ state. IsSound (device J.tells J.seen J.may_leave J.moment J.left_since) state) }
+        ensures session { IfOk result (λ state. IsTrue J.tells → (logs : List Held) × HoldsLogs 1 logs (J.seen journal) × (session_of_state state ≡ suc (greatest_session logs))) }
+        ensures fresh { IfOk result (λ state. IsTrue J.tells → (base : Batches) → Stands base (J.seen journal) → last_number base < session_of_state state * 2 ^ 40) }
+        ensures later { IfOk result (λ state. J.faults journal ≤ faults_of_state J.faults state) }
+        ensures cause { IfErr result (λ e. OpenCause (Rose (J.faults journal) (J.faults e.1)) J.tells (J.seen journal) profile e.0) }
+        ensures later_err { IfErr result (λ e. J.faults journal ≤ J.faults e.1) }
+        ensures images { IfErr result (λ e. IsTrue J.tells → (base : Batches) → OpensOn true base (J.seen journal) (J.may_leave journal)
+            → (image : Image) → J.may_leave e.1 image → Stands base image) }
+    {
+        one_reading();
+        one_batch();
+        let mut journal = journal;
+        match read_logs(alloc, &mut journal, profile) {
+            Ok(found) => State::begin(alloc, journal, profile, found),
+            Err(fault) => Err((fault, journal)),
+        }
+    }
+}

@@ -1,0 +1,9 @@
+-- What is told of the sinks over files that were handed back.
+use Rattle.std.specs.Prelude.{ℕ, ◌==◌, if◌then◌else◌}
+use Rattle.pebbles_cli.specs.declared.returned.Returned.{Returned}
+use Rattle.pebbles_cli.specs.declared.returned.Returned.TheVariants.{Nothing, Sink'}
+
+-- how often the sink of a client had failed that was handed back last
+abbrev pub failed_by : Returned → ℕ → ℕ
+failed_by Nothing index = 0
+failed_by (Sink' client faults place earlier) index = if client == index then faults else failed_by earlier index
