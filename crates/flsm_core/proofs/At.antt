@@ -27,12 +27,18 @@ use Rattle.flsm_core.proofs.Images.{ClosesAny, HasClosed, close_leaves, close_re
 
 leaves_lower : (low least all : Batches) (image : Image) → IsFront low least → Leaves least all image → Leaves low all image
 leaves_lower low least all image front leaves = record {
-  batches = leaves.batches; enough = front_trans low least leaves.batches front leaves.enough; within = leaves.within; stands = leaves.stands;
+  batches = leaves.batches;
+  enough = front_trans low least leaves.batches front leaves.enough;
+  within = leaves.within;
+  stands = leaves.stands;
 }
 
 leaves_grow : (least all more : Batches) (image : Image) → Leaves least all image → Leaves least (all ++ more) image
 leaves_grow least all more image leaves = record {
-  batches = leaves.batches; enough = leaves.enough; within = front_trans leaves.batches all (all ++ more) leaves.within (front_more all more); stands = leaves.stands;
+  batches = leaves.batches;
+  enough = leaves.enough;
+  within = front_trans leaves.batches all (all ++ more) leaves.within (front_more all more);
+  stands = leaves.stands;
 }
 
 -- ---- one more batch waits
@@ -68,15 +74,15 @@ rests_put : {D : Type 0} (d : Device D) (old new : State D) (n : ℕ) (op : Op) 
     → Rests d old.journal old.log old.session p → Rests d new.journal new.log new.session (record p { waiting = b })
 rests_put {D} d old new n op p b did rests =
     subst (λ (s : ℕ). Rests d new.journal new.log s (record p { waiting = b })) (sym did.session)
-      (subst (λ (j : D). Rests d j new.log old.session (record p { waiting = b })) (sym did.journal)
-        (rests_moved d old.journal old.log new.log old.session p b did.file did.place rests))
+    (subst (λ (j : D). Rests d j new.log old.session (record p { waiting = b })) (sym did.journal)
+    (rests_moved d old.journal old.log new.log old.session p b did.file did.place rests))
 
 waits_put : {D : Type 0} (old new : State D) (n : ℕ) (op : Op) (p : Place) → HasPut old new n op
     → Waits old.log old.session p → Waits new.log new.session (record p { waiting = p.waiting ++ (n, op ∷ []) ∷ [] })
 waits_put old new n op p did waits = record {
   tail = did.tail ∙ ap (λ r. r ++ record_bytes (record_of (n, op ∷ []))) waits.tail ∙ sym (waiting-push p.waiting (n, op ∷ []));
   each = subst (λ (s : ℕ). AllByRecursion (IsBatchIn s) (p.waiting ++ (n, op ∷ []) ∷ [])) (sym did.session)
-    (each-append old.session p.waiting ((n, op ∷ []) ∷ []) waits.each (did.batch, tt));
+      (each-append old.session p.waiting ((n, op ∷ []) ∷ []) waits.each (did.batch, tt));
 }
 
 -- the place with this batch waiting
@@ -95,13 +101,13 @@ at_one_more {D} d old new n op p did next is =
       ordered = ap are_in_order grown ∙ in_order_push (all_of p) n (op ∷ []) is.ordered next (omega arith) (ap session_of (sym one));
       last = did.last ∙ sym (ap last_number grown ∙ last);
       current = did.current ∙ ap (λ m. apply_change op.key op.change m) is.current
-        ∙ sym (map_after_one (all_of p) n op next) ∙ sym (ap (λ bs. map_at bs (last_number bs)) grown ∙ ap (map_at (all_of p ++ (n, op ∷ []) ∷ [])) last);
+          ∙ sym (map_after_one (all_of p) n op next) ∙ sym (ap (λ bs. map_at bs (last_number bs)) grown ∙ ap (map_at (all_of p ++ (n, op ∷ []) ∷ [])) last);
       stopped = did.stopped ∙ is.stopped;
       waits = λ fine. waits_put old new n op p did (is.waits fine);
       since = λ told honest image left. subst (λ bs. Leaves p.base bs image) (sym grown)
-        (leaves_grow p.base (all_of p) ((n, op ∷ []) ∷ []) image (is.since told honest image (subst (λ (j : D). d.left_since j p.start image) did.journal left)));
+          (leaves_grow p.base (all_of p) ((n, op ∷ []) ∷ []) image (is.since told honest image (subst (λ (j : D). d.left_since j p.start image) did.journal left)));
       now = λ told honest image left. subst (λ bs. Leaves p.settled bs image) (sym grown)
-        (leaves_grow p.settled (all_of p) ((n, op ∷ []) ∷ []) image (is.now told honest image (subst (λ (j : D). d.may_leave j image) did.journal left)));
+          (leaves_grow p.settled (all_of p) ((n, op ∷ []) ∷ []) image (is.now told honest image (subst (λ (j : D). d.may_leave j image) did.journal left)));
       rests = λ told fine. rests_put d old new n op p (p.waiting ++ (n, op ∷ []) ∷ []) did (is.rests told fine);
     }
 
@@ -135,8 +141,8 @@ pub at_synced : {D : Type 0} (d : Device D) (old new : State D) (p : Place) → 
 at_synced {D} d old new p session stopped last current fine tail time call is =
     let all = all_same p in
     let rests : (told : IsTrue d.tells) → Rests d new.journal new.log new.session (all_settled p) = λ told.
-      subst (λ (s : ℕ). Rests d new.journal new.log s (all_settled p)) (sym session)
-        (close_rests d old.journal new.journal old.log new.log old.session p (is.rests told fine) (is.waits fine) (call told)) in
+    subst (λ (s : ℕ). Rests d new.journal new.log s (all_settled p)) (sym session)
+    (close_rests d old.journal new.journal old.log new.log old.session p (is.rests told fine) (is.waits fine) (call told)) in
     let ordered : are_in_order (all_of (all_settled p)) ≡ true = ap are_in_order all ∙ is.ordered in
     record {
       began = omega (arith, is.began, time.later);
@@ -147,7 +153,7 @@ at_synced {D} d old new p session stopped last current fine tail time call is =
       stopped = stopped ∙ is.stopped;
       waits = λ go. record { tail = tail; each = tt };
       since = λ told honest image left. subst (λ bs. Leaves p.base bs image) (sym all)
-        (since_on d old.journal new.journal p (all_of p) is.began is.grown time (is.since told honest)
+          (since_on d old.journal new.journal p (all_of p) is.began is.grown time (is.since told honest)
           (λ at now. close_leaves d old.journal new.journal old.log old.session p at (is.rests told fine) (is.waits fine) is.ordered honest (call told).images now) image left);
       now = λ told honest image left. rests_leaves d new.journal new.log new.session (all_settled p) image (rests told) ordered honest left;
       rests = λ told go. rests told;
@@ -204,8 +210,8 @@ at_opened {D} d mid new start honest k opening header logs batches at owned bega
     let all : all_of p ≡ batches = append-nil batches in
     let ordered : are_in_order (all_of p) ≡ true = ap are_in_order all ∙ did.ordered in
     let rests : (told : IsTrue d.tells) → Rests d new.journal new.log new.session p = λ told.
-      subst (λ (s : ℕ). Rests d new.journal new.log s p) (sym did.session)
-        (create_rests d mid new.journal honest k start opening header new.log logs batches at owned (quiet told) (call told)) in
+    subst (λ (s : ℕ). Rests d new.journal new.log s p) (sym did.session)
+    (create_rests d mid new.journal honest k start opening header new.log logs batches at owned (quiet told) (call told)) in
     record {
       began = omega (arith, began, time.later);
       grown = front_refl batches;

@@ -139,9 +139,11 @@ one_reading fin one batch image a b x y ra rb =
     begun : (n : ℕ) (logs : List Held) → HoldsLogs n logs image → BeginsLogs n logs image
     begun n [] holds = tt
     begun n (l ∷ logs) holds = (holds.0, begun (suc n) logs holds.1)
+
     finish : (n k : ℕ) (logs : List Held) → HoldsLogs n logs image → n + length logs ≡ k → IsUnfinished (image (Log k))
     finish n k [] holds at = let e : n ≡ k = omega (arith, at) in subst (λ m. IsUnfinished (image (Log m))) e holds
     finish n k (l ∷ logs) holds at = finish (suc n) k logs holds.1 (omega (arith, at))
+
     ends : (k : ℕ) (more : List Held) → IsUnfinished (image (Log k)) → HoldsLogs k more image → more ≡ []
     ends k [] absent holds = refl
     ends k (l ∷ more) absent holds = absurd (fin (Log k) (image (Log k)) l.header l.groups holds.0 absent)
@@ -158,6 +160,7 @@ unreadable_log fin one un k at logs image bytes size begins found damaged all ba
     short : IsUnfinished (Some bytes) → ⊥
     short (inl less) = omega (arith, less, damaged.long)
     short (inr closed) = closed damaged.made
+
     refused : (more : List Held) → HoldsLogs k more image → ⊥
     refused [] holds = short (subst IsUnfinished found holds)
     refused (l ∷ more) holds = un (Log k) bytes l.header l.groups at (subst (λ b. IsLog (Log k) l.header l.groups b) found holds.0) damaged
@@ -169,7 +172,7 @@ unreadable_records fin one batch k logs batches log image size begins spelled he
     let g = goes fin one 1 logs all image begins reads.holds in
     let c = cut logs g.more base (subst (λ l. SpellsAll l base) g.is reads.spelled) in
     refused g.more c.fronts c.others (subst (λ m. HoldsLogs m g.more image) size g.holds) (spells_one batch logs c.fronts batches c.spells_first spelled) c.spells_second
-      (sym (ap are_in_order c.is) ∙ reads.ordered)
+    (sym (ap are_in_order c.is) ∙ reads.ordered)
   where
     refused : (more : List Held) (x y : Batches) → HoldsLogs k more image → x ≡ batches → SpellsAll more y → are_in_order (x ++ y) ≡ true → ⊥
     refused [] x y holds same spells ordered = fin (Log k) (image (Log k)) log.header log.groups here holds
@@ -177,7 +180,7 @@ unreadable_records fin one batch k logs batches log image size begins spelled he
         let e = one (Log k) (image (Log k)) l.header log.header l.groups log.groups holds.0 here in
         let whole : (batches ++ own) ++ rest ≡ x ++ y = append_assoc batches own rest ∙ ap (λ r. batches ++ r) (sym is) ∙ ap (λ r. r ++ y) (sym same) in
         cant own (subst (λ (h : Held). AreRecords h.header.session (flat h.groups) own) (same_held l log e) these)
-          (front_in_order (batches ++ own) rest (ap are_in_order whole ∙ ordered))
+        (front_in_order (batches ++ own) rest (ap are_in_order whole ∙ ordered))
 
 -- the records of a log, where its header and bodies are known by other names
 pub spells_as : (log : Held) (header : Header) (bodies : List (List ℕ)) (own : Batches) → log.header ≡ header → flat log.groups ≡ bodies → AreRecords header.session bodies own → Spells log own

@@ -23,9 +23,10 @@ above m n lt e = omega (arith, lt, e)
 -- the same logs where none from n on was changed
 pub holds_same : (n : ℕ) (logs : List Held) (image new : Image) → ((m : ℕ) → n ≤ m → new (Log m) ≡ image (Log m)) → HoldsLogs n logs image → HoldsLogs n logs new
 holds_same n [] image new same holds = subst (λ b. IsUnfinished b) (sym (same n (omega arith))) holds
-holds_same n (log ∷ logs) image new same holds =
-    ( subst (λ b. IsLog (Log n) log.header log.groups b) (sym (same n (omega arith))) holds.0
-    , holds_same (suc n) logs image new (λ m le. same m (omega (arith, le))) holds.1 )
+holds_same n (log ∷ logs) image new same holds = (
+  subst (λ b. IsLog (Log n) log.header log.groups b) (sym (same n (omega arith))) holds.0,
+  holds_same (suc n) logs image new (λ m le. same m (omega (arith, le))) holds.1,
+)
 
 -- the last log has other groups
 pub holds_changed : (n last : ℕ) (logs : List Held) (log log' : Held) (image new : Image) → n + length logs ≡ last
@@ -33,12 +34,14 @@ pub holds_changed : (n last : ℕ) (logs : List Held) (log log' : Held) (image n
     → IsLog (Log last) log'.header log'.groups (new (Log last))
     → HoldsLogs n (logs ++ log ∷ []) image → HoldsLogs n (logs ++ log' ∷ []) new
 holds_changed n last [] log log' image new is same here holds =
-    let at : n ≡ last = omega (arith, is) in
-    ( subst (λ k. IsLog (Log k) log'.header log'.groups (new (Log k))) (sym at) here
-    , subst (λ b. IsUnfinished b) (sym (same (suc n) (omega arith) (above (suc n) last (omega (arith, at))))) holds.1 )
-holds_changed n last (first ∷ logs) log log' image new is same here holds =
-    ( subst (λ b. IsLog (Log n) first.header first.groups b) (sym (same n (omega arith) (below n last (omega (arith, is))))) holds.0
-    , holds_changed (suc n) last logs log log' image new (omega (arith, is)) (λ m le. same m (omega (arith, le))) here holds.1 )
+    let at : n ≡ last = omega (arith, is) in (
+      subst (λ k. IsLog (Log k) log'.header log'.groups (new (Log k))) (sym at) here,
+      subst (λ b. IsUnfinished b) (sym (same (suc n) (omega arith) (above (suc n) last (omega (arith, at))))) holds.1,
+    )
+holds_changed n last (first ∷ logs) log log' image new is same here holds = (
+  subst (λ b. IsLog (Log n) first.header first.groups b) (sym (same n (omega arith) (below n last (omega (arith, is))))) holds.0,
+  holds_changed (suc n) last logs log log' image new (omega (arith, is)) (λ m le. same m (omega (arith, le))) here holds.1,
+)
 
 -- one more log was created, and none stands above it
 pub holds_next : (n last : ℕ) (logs : List Held) (log : Held) (image new : Image) → n + length logs ≡ last
@@ -49,9 +52,10 @@ holds_next n last [] log image new is same none here holds =
     let at : n ≡ last = omega (arith, is) in
     let absent : IsUnfinished (new (Log (suc last))) = subst (λ b. IsUnfinished b) (sym (same (suc last) (omega (arith, at)) (above (suc last) last (omega arith)) ∙ none)) tt in
     subst (λ k. IsLog (Log k) log.header log.groups (new (Log k)) × IsUnfinished (new (Log (suc k)))) (sym at) (here, absent)
-holds_next n last (first ∷ logs) log image new is same none here holds =
-    ( subst (λ b. IsLog (Log n) first.header first.groups b) (sym (same n (omega arith) (below n last (omega (arith, is))))) holds.0
-    , holds_next (suc n) last logs log image new (omega (arith, is)) (λ m le. same m (omega (arith, le))) none here holds.1 )
+holds_next n last (first ∷ logs) log image new is same none here holds = (
+  subst (λ b. IsLog (Log n) first.header first.groups b) (sym (same n (omega arith) (below n last (omega (arith, is))))) holds.0,
+  holds_next (suc n) last logs log image new (omega (arith, is)) (λ m le. same m (omega (arith, le))) none here holds.1,
+)
 
 -- the next log wasn't created to its end
 pub holds_begun : (n last : ℕ) (logs : List Held) (image new : Image) → n + length logs ≡ last
@@ -61,9 +65,10 @@ pub holds_begun : (n last : ℕ) (logs : List Held) (image new : Image) → n + 
 holds_begun n last [] image new is same here holds =
     let at : n ≡ last = omega (arith, is) in
     subst (λ k. IsUnfinished (new (Log k))) (sym at) here
-holds_begun n last (first ∷ logs) image new is same here holds =
-    ( subst (λ b. IsLog (Log n) first.header first.groups b) (sym (same n (omega arith) (below n last (omega (arith, is))))) holds.0
-    , holds_begun (suc n) last logs image new (omega (arith, is)) (λ m le. same m (omega (arith, le))) here holds.1 )
+holds_begun n last (first ∷ logs) image new is same here holds = (
+  subst (λ b. IsLog (Log n) first.header first.groups b) (sym (same n (omega arith) (below n last (omega (arith, is))))) holds.0,
+  holds_begun (suc n) last logs image new (omega (arith, is)) (λ m le. same m (omega (arith, le))) here holds.1,
+)
 
 -- the first absent log is absent
 pub holds_end : (n last : ℕ) (logs : List Held) (image : Image) → n + length logs ≡ last → HoldsLogs n logs image → IsUnfinished (image (Log last))

@@ -74,30 +74,30 @@ close_leaves d old new log session p image rests waits ordered honest any left =
     let bodies = map record_of p.waiting in
     let current = rests.current in
     let whole : Follows (In (Log k) (λ before after. IsBeforeOrAfter (Log k) current.header current.groups bodies after)) (d.may_leave old) (d.left_since new (d.moment old)) =
-      subst (λ (f : JournalFile). Follows (In f (λ before after. IsBeforeOrAfter f current.header current.groups bodies after)) (d.may_leave old) (d.left_since new (d.moment old)))
-        rests.file (any current.header current.groups bodies rests.ready waits.tail) in
+    subst (λ (f : JournalFile). Follows (In f (λ before after. IsBeforeOrAfter f current.header current.groups bodies after)) (d.may_leave old) (d.left_since new (d.moment old)))
+    rests.file (any current.header current.groups bodies rests.ready waits.tail) in
     let step = stepped d old k (λ before after. IsBeforeOrAfter (Log k) current.header current.groups bodies after) (d.left_since new (d.moment old)) (omega arith) (rests.only honest) whole image left in
     let none : (n : ℕ) → n ≡ suc k → (m : ℕ) → n < m → image (Log m) ≡ None = λ n is m lt.
-      step.elsewhere m (omega (arith, lt)) (above m k (omega (arith, is, lt))) ∙ rests.none_above m (omega (arith, is, lt)) in
+    step.elsewhere m (omega (arith, lt)) (above m k (omega (arith, is, lt))) ∙ rests.none_above m (omega (arith, is, lt)) in
     let after : (log' : Held) → IsLog (Log k) log'.header log'.groups (image (Log k)) → HoldsLogs 1 (rests.logs ++ log' ∷ []) image = λ log' made.
-      holds_changed 1 k rests.logs current log' (d.seen old) image (omega arith) (λ m le. step.elsewhere m (omega (arith, le))) made rests.holds in
+    holds_changed 1 k rests.logs current log' (d.seen old) image (omega arith) (λ m le. step.elsewhere m (omega (arith, le))) made rests.holds in
     let size : (log' : Held) → suc (length (rests.logs ++ log' ∷ [])) ≡ suc k = λ log'. omega (arith, length-append rests.logs (log' ∷ [])) in
     elim step.here [
       | inl before ↦ record {
-          batches = p.settled;
-          enough = front_refl p.settled;
-          within = front_more p.settled p.waiting;
-          stands = stands_of p.settled (rests.logs ++ current ∷ []) image (after current before) rests.spelled (front_in_order p.settled p.waiting ordered)
+        batches = p.settled;
+        enough = front_refl p.settled;
+        within = front_more p.settled p.waiting;
+        stands = stands_of p.settled (rests.logs ++ current ∷ []) image (after current before) rests.spelled (front_in_order p.settled p.waiting ordered)
             (none (suc (length (rests.logs ++ current ∷ []))) (size current));
-        }
+      }
       | inr made ↦ record {
-          batches = all_of p;
-          enough = front_more p.settled p.waiting;
-          within = front_refl (all_of p);
-          stands = stands_of (all_of p) (rests.logs ++ closed current p.waiting ∷ []) image (after (closed current p.waiting) made)
+        batches = all_of p;
+        enough = front_more p.settled p.waiting;
+        within = front_refl (all_of p);
+        stands = stands_of (all_of p) (rests.logs ++ closed current p.waiting ∷ []) image (after (closed current p.waiting) made)
             (spells_group rests.logs current p.settled p.waiting (subst (λ (s : ℕ). AllByRecursion (IsBatchIn s) p.waiting) (sym rests.owned) waits.each) rests.spelled) ordered
             (none (suc (length (rests.logs ++ closed current p.waiting ∷ []))) (size (closed current p.waiting)));
-        }
+      }
     ]
 
 -- what an Ok of the closing says
@@ -105,7 +105,7 @@ pub record HasClosed {D : Type 0} (d : Device D) (old new : D) (log log' : LogFi
   pub images : ClosesAny d old new log
   pub counts : (image : Image) → d.may_leave new image → d.left_since new (d.moment old) image
   pub ready : (header : Header) (groups : List (List (List ℕ))) (bodies : List (List ℕ)) → IsReady d.tells d.seen d.may_leave old log header groups → log_tail log ≡ records_bytes bodies
-    → IsReady d.tells d.seen d.may_leave new log' header (with_group groups bodies)
+      → IsReady d.tells d.seen d.may_leave new log' header (with_group groups bodies)
   pub file : log_file log' ≡ log_file log
   pub tail : log_tail log' ≡ []
   pub elsewhere : (other : JournalFile) → other ≢ log_file log → d.seen new other ≡ d.seen old other
@@ -134,10 +134,10 @@ close_rests d old new log log' session p rests waits call =
     let same : AgreeBut k (d.seen new) (d.seen old) = λ m is differ. call.elsewhere (Log m) (λ e. logs_differ m k differ (e ∙ rests.file)) in
     let file : log_file log' ≡ Log k = call.file ∙ rests.file in
     let made : IsLog (Log k) (closed current p.waiting).header (closed current p.waiting).groups (d.seen new (Log k)) =
-      subst (λ (f : JournalFile). IsLog f (closed current p.waiting).header (closed current p.waiting).groups (d.seen new f)) file ready.form in
+    subst (λ (f : JournalFile). IsLog f (closed current p.waiting).header (closed current p.waiting).groups (d.seen new f)) file ready.form in
     let whole : Follows (In (Log k) (λ before after. IsBeforeOrAfter (Log k) current.header current.groups bodies after)) (d.may_leave old) (d.left_since new (d.moment old)) =
-      subst (λ (f : JournalFile). Follows (In f (λ before after. IsBeforeOrAfter f current.header current.groups bodies after)) (d.may_leave old) (d.left_since new (d.moment old)))
-        rests.file (call.images current.header current.groups bodies rests.ready waits.tail) in
+    subst (λ (f : JournalFile). Follows (In f (λ before after. IsBeforeOrAfter f current.header current.groups bodies after)) (d.may_leave old) (d.left_since new (d.moment old)))
+    rests.file (call.images current.header current.groups bodies rests.ready waits.tail) in
     record {
       logs = rests.logs;
       current = closed current p.waiting;
@@ -148,7 +148,7 @@ close_rests d old new log log' session p rests waits call =
       owned = rests.owned;
       ready = ready;
       only = λ honest. only_on d old new k (λ before after. IsBeforeOrAfter (Log k) current.header current.groups bodies after) (omega arith) (rests.only honest) whole call.counts
-        (subst (λ (f : JournalFile). Keeps f (d.seen new f) (d.may_leave new)) file ready.kept) same;
+          (subst (λ (f : JournalFile). Keeps f (d.seen new f) (d.may_leave new)) file ready.kept) same;
     }
 
 -- where nothing is under way, a crash leaves the settled batches
@@ -161,7 +161,7 @@ rests_leaves d journal log session p image rests ordered honest left =
       enough = front_refl p.settled;
       within = front_more p.settled p.waiting;
       stands = stands_of p.settled logs image (holds_same 1 logs (d.seen journal) image (λ m le. same m (omega (arith, le))) rests.holds) rests.spelled (front_in_order p.settled p.waiting ordered)
-        (λ m lt. same m (omega (arith, lt)) ∙ rests.none_above m (omega (arith, lt, length-append rests.logs (rests.current ∷ []))));
+          (λ m lt. same m (omega (arith, lt)) ∙ rests.none_above m (omega (arith, lt, length-append rests.logs (rests.current ∷ []))));
     }
 
 -- ---- creating the next log
@@ -182,18 +182,18 @@ pub create_leaves : {D : Type 0} (d : Device D) (old new : D) (honest : Bool) (k
 create_leaves d old new honest k header logs batches image at quiet sure follows left =
     let step = stepped d old k (Creates (Log k) header) (d.left_since new (d.moment old)) (omega (arith, at)) (quiet.only sure) follows image left in
     let begun : IsUnfinished (image (Log k)) → Stands batches image = λ unfinished.
-      stands_of batches logs image (holds_begun 1 k logs (d.seen old) image (omega (arith, at)) (λ m le. step.elsewhere m (omega (arith, le))) unfinished quiet.reads.holds) quiet.reads.spelled quiet.reads.ordered
-        (λ m lt. step.elsewhere m (omega (arith, lt)) (above m k (omega (arith, at, lt))) ∙ quiet.none_above m lt) in
+    stands_of batches logs image (holds_begun 1 k logs (d.seen old) image (omega (arith, at)) (λ m le. step.elsewhere m (omega (arith, le))) unfinished quiet.reads.holds) quiet.reads.spelled quiet.reads.ordered
+    (λ m lt. step.elsewhere m (omega (arith, lt)) (above m k (omega (arith, at, lt))) ∙ quiet.none_above m lt) in
     elim step.here [
       | inl stays ↦ begun (subst IsUnfinished (sym stays) (holds_end 1 k logs (d.seen old) (omega (arith, at)) quiet.reads.holds))
       | inr more ↦ elim more [
-          | inl unfinished ↦ begun unfinished
-          | inr made ↦ stands_of batches (logs ++ fresh header ∷ []) image
-              (holds_next 1 k logs (fresh header) (d.seen old) image (omega (arith, at)) (λ m le. step.elsewhere m (omega (arith, le))) (quiet.none_above (suc k) (omega (arith, at))) made quiet.reads.holds)
-              (spells_one_more logs header batches quiet.reads.spelled) quiet.reads.ordered
-              (λ m lt. let size = length-append logs (fresh header ∷ []) in
-                step.elsewhere m (omega (arith, lt)) (above m k (omega (arith, at, lt, size))) ∙ quiet.none_above m (omega (arith, at, lt, size)))
-        ]
+        | inl unfinished ↦ begun unfinished
+        | inr made ↦ stands_of batches (logs ++ fresh header ∷ []) image
+            (holds_next 1 k logs (fresh header) (d.seen old) image (omega (arith, at)) (λ m le. step.elsewhere m (omega (arith, le))) (quiet.none_above (suc k) (omega (arith, at))) made quiet.reads.holds)
+            (spells_one_more logs header batches quiet.reads.spelled) quiet.reads.ordered
+            (λ m lt. let size = length-append logs (fresh header ∷ []) in
+            step.elsewhere m (omega (arith, lt)) (above m k (omega (arith, at, lt, size))) ∙ quiet.none_above m (omega (arith, at, lt, size)))
+      ]
     ]
 
 -- then the state is at rest
@@ -213,5 +213,5 @@ create_rests d old new honest k start session header log logs batches at owned q
       owned = owned;
       ready = call.ready;
       only = λ sure. only_on d old new k (Creates (Log k) header) (omega (arith, at)) (quiet.only sure) call.images call.counts
-        (subst (λ (f : JournalFile). Keeps f (d.seen new f) (d.may_leave new)) call.file call.ready.kept) same;
+          (subst (λ (f : JournalFile). Keeps f (d.seen new f) (d.may_leave new)) call.file call.ready.kept) same;
     }

@@ -41,10 +41,13 @@ pub add_refused : Finished → OneLog → OneBatch → (rose : Type 0) (tells : 
     → AddCause profile number header ((held : List Held) (batches : Batches) → IsFound profile found held batches → CantGoOn header.session batches (bodies_of records)) fault
     → OpenCause rose tells seen profile fault
 add_refused fin one batch rose tells seen profile number found held batches header records opens.Journal size begins is holds cause = absurd cause
-add_refused fin one batch rose tells seen profile number found held batches header records (opens.Damaged file at) size begins is holds cause =
-    (number, cause.0, λ told. let h = holds told in
+add_refused fin one batch rose tells seen profile number found held batches header records (opens.Damaged file at) size begins is holds cause = (
+  number,
+  cause.0,
+  λ told. let h = holds told in
       unreadable_records fin one batch number held batches (record { header = header; groups = h.groups }) seen size (begins told) is.spelled h.log
-        (subst (λ bodies. CantGoOn header.session batches bodies) (sym (bodies_read records h.groups h.given)) (cause.1 held batches is)))
+      (subst (λ bodies. CantGoOn header.session batches bodies) (sym (bodies_read records h.groups h.given)) (cause.1 held batches is)),
+)
 add_refused fin one batch rose tells seen profile number found held batches header records (opens.Profile have asked) size begins is holds cause =
     (cause.1, cause.2, λ told. let h = holds told in (number, header, h.groups, h.log, sym cause.0))
 add_refused fin one batch rose tells seen profile number found held batches header records (opens.Limit kind n) size begins is holds cause =
@@ -96,7 +99,7 @@ pub kept_more : {D : Type 0} (d : Device D) (old new : D) (n : ℕ) → HasWatch
 kept_more d old new n watched next kept m some within = elim (cases_lt n m) [
   | inl last ↦ let at : n + 1 ≡ m = omega (arith, last, within) in
       subst (λ (k : ℕ). Keeps (Log k) (d.seen new (Log k)) (d.may_leave new)) at
-        (λ image left. next image left ∙ ap (λ (i : Image). i (Log (n + 1))) (sym watched.seen))
+      (λ image left. next image left ∙ ap (λ (i : Image). i (Log (n + 1))) (sym watched.seen))
   | inr before ↦ kept m some before
 ]
 
@@ -104,9 +107,10 @@ kept_more d old new n watched next kept m some within = elim (cases_lt n m) [
 
 holds_upto : (n : ℕ) (held : List Held) (image new : Image) → ((m : ℕ) → n ≤ m → m ≤ n + length held → new (Log m) ≡ image (Log m)) → HoldsLogs n held image → HoldsLogs n held new
 holds_upto n [] image new same holds = subst (λ b. IsUnfinished b) (sym (same n (omega arith) (omega arith))) holds
-holds_upto n (log ∷ held) image new same holds =
-    ( subst (λ b. IsLog (Log n) log.header log.groups b) (sym (same n (omega arith) (omega arith))) holds.0
-    , holds_upto (suc n) held image new (λ m from to. same m (omega (arith, from)) (omega (arith, to))) holds.1 )
+holds_upto n (log ∷ held) image new same holds = (
+  subst (λ b. IsLog (Log n) log.header log.groups b) (sym (same n (omega arith) (omega arith))) holds.0,
+  holds_upto (suc n) held image new (λ m from to. same m (omega (arith, from)) (omega (arith, to))) holds.1,
+)
 
 pub stands_agree : (base : Batches) (image new : Image) → ((m : ℕ) → new (Log m) ≡ image (Log m)) → Stands base image → Stands base new
 stands_agree base image new same stands = record {
@@ -144,7 +148,7 @@ quiet_after fin one batch d old new honest held batches base found on =
     let same = same_base fin one batch d old new held batches base found stands in
     let seen : d.seen new ≡ d.seen old = found.watched.seen in
     let none : (m : ℕ) → suc (length held) < m → d.seen new (Log m) ≡ None = λ m lt.
-      ap (λ (i : Image). i (Log m)) seen ∙ stands.none_above m (subst (λ (l : List Held). suc (length l) < m) same.logs lt) in
+    ap (λ (i : Image). i (Log m)) seen ∙ stands.none_above m (subst (λ (l : List Held). suc (length l) < m) same.logs lt) in
     record {
       reads = subst (λ (i : Image). Reads i held batches) (sym seen) found.reads;
       none_above = none;
@@ -153,7 +157,7 @@ quiet_after fin one batch d old new honest held batches base found on =
             let from = found.watched.each image (found.counts image left) in
             let before = each_stands honest base (d.seen old) (d.may_leave old) sure on from.0 from.1 in
             let holds : HoldsLogs 1 held from.0 = holds_upto 1 held (d.seen old) from.0
-              (λ k low to. sym (from.2 k) ∙ found.kept k low (omega (arith, to)) image left ∙ ap (λ (i : Image). i (Log k)) seen) found.reads.holds in
+            (λ k low to. sym (from.2 k) ∙ found.kept k low (omega (arith, to)) image left ∙ ap (λ (i : Image). i (Log k)) seen) found.reads.holds in
             let again = one_reading fin one batch from.0 held before.logs batches base (record { holds = holds; spelled = found.reads.spelled; ordered = found.reads.ordered }) before.reads in
             from.2 m ∙ before.none_above m (subst (λ (l : List Held). suc (length l) < m) again.logs high) ∙ sym (none m high)
         | inr low ↦ found.kept m some low image left

@@ -12,7 +12,7 @@ above_front low [] rest ordered = refl
 above_front low (b ∷ front) rest ordered =
     let parts = and_parts (nat_lt low b.0 && nat_lt 0 (length b.1) && session_of b.0 == session_of (b.0 + length b.1 - 1)) (ordered_above (b.0 + length b.1 - 1) (front ++ rest)) ordered in
     and_from (nat_lt low b.0 && nat_lt 0 (length b.1) && session_of b.0 == session_of (b.0 + length b.1 - 1)) (ordered_above (b.0 + length b.1 - 1) front)
-      parts.0 (above_front (b.0 + length b.1 - 1) front rest parts.1)
+    parts.0 (above_front (b.0 + length b.1 - 1) front rest parts.1)
 
 -- first batches of batches in order are in order
 pub front_in_order : (front rest : Batches) → are_in_order (front ++ rest) ≡ true → are_in_order front ≡ true

@@ -28,8 +28,8 @@ pairs-insert [] k v = refl
 pairs-insert (e ∷ es) k v = by (slice_cmp nat_cmp k.items e.0.items) refl (pairs-insert es k v)
   where
     by : (o : Ordering) → slice_cmp nat_cmp k.items e.0.items ≡ o → pairs (insert_entry by_bytes es k v) ≡ set_key k.items v (pairs es)
-      → pairs (match_ordering (slice_cmp nat_cmp k.items e.0.items) ((k, v) ∷ e ∷ es) ((e.0, v) ∷ es) (e ∷ insert_entry by_bytes es k v))
-      ≡ cond (is_lt (slice_cmp nat_cmp k.items e.0.items)) ((k.items, v) ∷ pairs (e ∷ es)) (cond (key_eq k.items e.0.items) ((k.items, v) ∷ pairs es) ((e.0.items, e.1) ∷ set_key k.items v (pairs es)))
+        → pairs (match_ordering (slice_cmp nat_cmp k.items e.0.items) ((k, v) ∷ e ∷ es) ((e.0, v) ∷ es) (e ∷ insert_entry by_bytes es k v))
+        ≡ cond (is_lt (slice_cmp nat_cmp k.items e.0.items)) ((k.items, v) ∷ pairs (e ∷ es)) (cond (key_eq k.items e.0.items) ((k.items, v) ∷ pairs es) ((e.0.items, e.1) ∷ set_key k.items v (pairs es)))
     by Less is rest = rw is refl
     by Equal is rest =
         let same : key_eq k.items e.0.items ≡ true = sym (is_eq-slice_cmp k.items e.0.items) ∙ ap is_eq is in
@@ -56,7 +56,7 @@ pairs-remove [] q ordered = refl
 pairs-remove (e ∷ es) q ordered = by (slice_cmp nat_cmp q e.0.items) refl (pairs-remove es q ordered.1)
   where
     by : (o : Ordering) → slice_cmp nat_cmp q e.0.items ≡ o → pairs (remove_entry (λ k. is_eq (slice_cmp nat_cmp q k.items)) es) ≡ remove_key q (pairs es)
-      → pairs (remove_entry (λ k. is_eq (slice_cmp nat_cmp q k.items)) (e ∷ es)) ≡ remove_key q (pairs (e ∷ es))
+        → pairs (remove_entry (λ k. is_eq (slice_cmp nat_cmp q k.items)) (e ∷ es)) ≡ remove_key q (pairs (e ∷ es))
     by Less is rest =
         let differs : key_eq q e.0.items ≡ false = sym (is_eq-slice_cmp q e.0.items) ∙ ap is_eq is in
         rw (is, differs) (ap (λ (r : Map). (e.0.items, e.1) ∷ r) rest)

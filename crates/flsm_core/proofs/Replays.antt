@@ -85,7 +85,7 @@ pub cant_go_on : (session : ℕ) (batches : Batches) (body : List ℕ) → NotOf
 cant_go_on session batches body none own are ordered =
     let one = one_own body own are.records in
     none one.b (subst (λ (bs : Batches). AllByRecursion (IsBatchIn session) bs) one.is are.each).0 one.spelled
-      (subst (λ (bs : Batches). are_in_order (batches ++ bs) ≡ true) one.is ordered)
+    (subst (λ (bs : Batches). are_in_order (batches ++ bs) ≡ true) one.is ordered)
 
 -- the bytes are no batch
 pub no_batch : (session : ℕ) (batches : Batches) (body : List ℕ) → ((first : ℕ) (ops : List Op) → IsBatch first ops → body ≢ batch_bytes first ops) → CantGoOn session batches (body ∷ [])
@@ -150,6 +150,7 @@ parts session (body ∷ front) rest (b ∷ own) are =
   where
     head_same : (x y : List ℕ) (xs ys : List (List ℕ)) → x ∷ xs ≡ y ∷ ys → x ≡ y
     head_same x y xs ys e = cc
+
     tail_same : (x y : List ℕ) (xs ys : List (List ℕ)) → x ∷ xs ≡ y ∷ ys → xs ≡ ys
     tail_same x y xs ys e = cc
 
@@ -169,8 +170,8 @@ cant_finish one session batches own front rest body are cant all spelled ordered
     let q = parts session (body ∷ []) rest p.others p.rests in
     let same : p.first ≡ own = same_records one session front p.first own p.fronts are in
     let whole : batches ++ all ≡ ((batches ++ own) ++ q.first) ++ q.others =
-      ap (λ bs. batches ++ bs) (p.is ∙ ap (λ bs. bs ++ p.others) same ∙ ap (λ bs. own ++ bs) q.is)
-      ∙ sym (append_assoc batches own (q.first ++ q.others)) ∙ sym (append_assoc (batches ++ own) q.first q.others) in
+    ap (λ bs. batches ++ bs) (p.is ∙ ap (λ bs. bs ++ p.others) same ∙ ap (λ bs. own ++ bs) q.is)
+    ∙ sym (append_assoc batches own (q.first ++ q.others)) ∙ sym (append_assoc (batches ++ own) q.first q.others) in
     cant q.first q.fronts (front_in_order ((batches ++ own) ++ q.first) q.others (ap are_in_order (sym whole) ∙ ordered))
 
 pub bodies_step : (items : List Record) (i : ℕ) (item : Record) → i < length items → item ≡ get_or items i item → bodies_of (take (i + 1) items) ≡ bodies_of (take i items) ++ body_of item ∷ []

@@ -1,4 +1,8 @@
-//! The state.
+//! The state of an open store: its logs, the ordered map of all batches in memory, and the numbers that it gives.
+//!
+//! The layer above opens a store (`State::open`), writes and reads it through the trait `Store`, and closes it (`State::close`).
+//! It speaks of a store by its place in its history (`specs/Place`), of what a crash leaves by `specs/Standing` and `specs/Logs`,
+//! and of a refused opening by `specs/Opening`. It may not know in which log a batch lies, nor when the journal is called.
 #![tactic(auto)]
 
 mod commit_fault;
@@ -17,3 +21,6 @@ pub use open_fault::OpenFault;
 pub use state::State;
 pub use store::Store;
 pub use sync_fault::SyncFault;
+
+#[cfg(test)]
+mod tests;

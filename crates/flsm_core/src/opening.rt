@@ -59,7 +59,11 @@ fn next_log<J: Journal>(
 }
 
 /// Reads the logs from 1 on up to the first absent one, and syncs each before it is read.
-fn read_logs<J: Journal>(alloc: Global, journal: &mut J, profile: Profile) -> Result<Found, OpenFault>
+fn read_logs<J: Journal>(
+    alloc: Global,
+    journal: &mut J,
+    profile: Profile,
+) -> Result<Found, OpenFault>
     ensures found { IfOk result (λ found. (logs : List Held) × (batches : Batches) × IsFound profile found logs batches × (IsTrue J.tells → HoldsLogs 1 logs (J.seen journal.old))) }
     ensures kept { IfOk result (λ found. AreKept (device J.tells J.seen J.may_leave J.moment J.left_since) journal.new (found.logs + 1)) }
     ensures cause { IfErr result (OpenCause (Rose (J.faults journal.old) (J.faults journal.new)) J.tells (J.seen journal.old) profile) }
@@ -85,7 +89,12 @@ impl<J: Journal> State<J> {
     ghost use Rattle.flsm_core.specs.Standing.{IsAt, IsSound, Leaves, session_of_state, faults_of_state};
 
     /// Creates the next log over what was read.
-    fn begin(alloc: Global, journal: J, profile: Profile, found: Found) -> Result<State<J>, (OpenFault, J)>
+    fn begin(
+        alloc: Global,
+        journal: J,
+        profile: Profile,
+        found: Found,
+    ) -> Result<State<J>, (OpenFault, J)>
         ensures stands { IfOk result (λ state. (start : ℕ) (honest : Bool) (logs : List Held) (batches : Batches) → start ≤ J.moment journal → IsFound profile found logs batches
             → (IsTrue J.tells → Quiet (device J.tells J.seen J.may_leave J.moment J.left_since) journal honest logs batches)
             → (IsTrue J.tells → IsTrue honest → (image : Image) → J.left_since journal start image → Stands batches image)

@@ -52,7 +52,12 @@ impl Replay {
     }
 
     /// Applies the batch of a record of a log of this session. After an error nothing more may be replayed.
-    fn replay_record(&mut self, alloc: Global, session: u64, item: &Record) -> Result<(), ReplayFault>
+    fn replay_record(
+        &mut self,
+        alloc: Global,
+        session: u64,
+        item: &Record,
+    ) -> Result<(), ReplayFault>
         ensures ok { OnOk result ((batches : Batches) → IsReplayOf self.old batches
             → (b : ℕ × List Op) × IsBatchIn session b × (item.now.body.items ≡ record_of b) × IsReplayOf self.new (batches ++ b ∷ [])) }
         ensures here { OnOk result (session_of self.new.last ≡ session) }
@@ -79,7 +84,12 @@ impl Replay {
     }
 
     /// Applies the records of a log of this session, in their order. After an error nothing more may be replayed.
-    pub fn replay_records(&mut self, alloc: Global, session: u64, items: &[Record]) -> Result<(), ReplayFault>
+    pub fn replay_records(
+        &mut self,
+        alloc: Global,
+        session: u64,
+        items: &[Record],
+    ) -> Result<(), ReplayFault>
         ensures ok { OnOk result ((batches : Batches) → IsReplayOf self.old batches
             → (own : Batches) × AreRecords session (bodies_of items.now) own × IsReplayOf self.new (batches ++ own)) }
         ensures here { OnOk result ((self.new.last ≡ self.old.last) ⊎ (session_of self.new.last ≡ session)) }

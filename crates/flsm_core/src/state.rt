@@ -20,6 +20,7 @@ const MOST_NUMBERS: u64 = (1 << 40) - 1;
 const LONGEST_TAIL: u64 = 1 << 31;
 
 /// An open store over the logs of a journal, with the ordered map of all batches in memory.
+#[derive(Drop)]
 pub struct State<J> {
     pub(crate) alloc: Global,
     pub(crate) journal: J,

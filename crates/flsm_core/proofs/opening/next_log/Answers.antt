@@ -13,9 +13,9 @@ pub returns-in-Err-clause-cause : goal.returns-in-Err-clause-cause
 returns-in-Err-clause-cause g c = λ logs batches is begins.
     let size : 1 + length logs ≡ c.args.found.logs + 1 = omega (arith, is.count) in
     subst (λ fault. OpenCause (Rose (g.J.Journal.faults c.args.journal.now) (g.J.Journal.faults c.open.new.journal)) g.J.Journal.tells (g.J.Journal.seen c.args.journal.now) c.args.profile fault)
-      (sym c.fault_of.ensures)
-      (open_refused c.one_reading.ensures.finished c.one_reading.ensures.one_log c.one_reading.ensures.undamaged _ g.J.Journal.tells (g.J.Journal.seen c.args.journal.now) c.args.profile
-        (c.args.found.logs + 1) logs c.in-Err.fault size begins (λ e. c.in-Err.ensures.fault (ap Err e)) c.in-Err.ensures.damaged)
+    (sym c.fault_of.ensures)
+    (open_refused c.one_reading.ensures.finished c.one_reading.ensures.one_log c.one_reading.ensures.undamaged _ g.J.Journal.tells (g.J.Journal.seen c.args.journal.now) c.args.profile
+    (c.args.found.logs + 1) logs c.in-Err.fault size begins (λ e. c.in-Err.ensures.fault (ap Err e)) c.in-Err.ensures.damaged)
 
 pub returns-in-Ok-clause-more : goal.returns-in-Ok-clause-more
 returns-in-Ok-clause-more g c = λ more logs batches is begins.
@@ -30,6 +30,6 @@ returns-clause-cause g c = λ logs batches is begins.
     let size : 1 + length logs ≡ c.args.found.logs + 1 = omega (arith, is.count) in
     let found = rw c.in-Ok-Some.field-0-is at c.in-Ok-Some.ensures.found in
     add_refused c.one_reading.ensures.finished c.one_reading.ensures.one_log c.one_batch.ensures _ g.J.Journal.tells (g.J.Journal.seen c.args.journal.now) c.args.profile
-      (c.args.found.logs + 1) c.args.found logs batches c.in-Ok-Some.log.0 c.in-Ok-Some.log.1.items c.in-Err-add_log.fault size begins is found
-      (subst (λ (rs : List Record). AddCause c.args.profile (c.args.found.logs + 1) c.in-Ok-Some.log.0 ((held : List Held) (bs : Batches) → IsFound c.args.profile c.args.found held bs → CantGoOn c.in-Ok-Some.log.0.session bs (bodies_of rs)) c.in-Err-add_log.fault)
-        c.deref.ensures.value c.in-Err-add_log.ensures.cause)
+    (c.args.found.logs + 1) c.args.found logs batches c.in-Ok-Some.log.0 c.in-Ok-Some.log.1.items c.in-Err-add_log.fault size begins is found
+    (subst (λ (rs : List Record). AddCause c.args.profile (c.args.found.logs + 1) c.in-Ok-Some.log.0 ((held : List Held) (bs : Batches) → IsFound c.args.profile c.args.found held bs → CantGoOn c.in-Ok-Some.log.0.session bs (bodies_of rs)) c.in-Err-add_log.fault)
+    c.deref.ensures.value c.in-Err-add_log.ensures.cause)

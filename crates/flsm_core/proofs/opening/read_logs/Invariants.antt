@@ -11,5 +11,5 @@ invariant-loop-number g l = record {
   so_far : (logs : List Held) × (batches : Batches) × IsFound l.profile l.found logs batches × (IsTrue g.J.Journal.tells → BeginsLogs 1 logs (g.J.Journal.seen l.initial.journal));
   watched : HasWatched (device g.J.Journal.tells g.J.Journal.seen g.J.Journal.may_leave g.J.Journal.moment g.J.Journal.left_since) l.initial.journal l.journal;
   kept : AreKept (device g.J.Journal.tells g.J.Journal.seen g.J.Journal.may_leave g.J.Journal.moment g.J.Journal.left_since) l.journal l.found.logs;
-  later : g.J.Journal.faults l.initial.journal ≤ g.J.Journal.faults l.journal
+  later : g.J.Journal.faults l.initial.journal ≤ g.J.Journal.faults l.journal;
 }

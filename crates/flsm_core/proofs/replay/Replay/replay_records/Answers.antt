@@ -18,12 +18,13 @@ loop-item-init c = record {
 pub loop-item-preserved : goal.loop-item-preserved
 loop-item-preserved c = record {
   so_far = λ batches replay.
-    let before = c.loop-item.invariant.so_far batches replay in
-    let more = c.in-Ok.ensures.ok (batches ++ before.0) before.2 in
-    let bodies = bodies_step c.args.items.now c.loop-item.item-index c.item-item.result c.loop-item-test.true c.item-item.is in
-    ( before.0 ++ more.0 ∷ []
-    , subst (λ bs. AreRecords c.args.session bs (before.0 ++ more.0 ∷ [])) (sym bodies) (one_more_record c.args.session _ _ before.0 more.0 before.1 more.1 more.2)
-    , subst (λ (bs : Batches). IsReplayOf c.replay_record.new.self bs) (append_assoc batches before.0 (more.0 ∷ [])) more.3 );
+      let before = c.loop-item.invariant.so_far batches replay in
+      let more = c.in-Ok.ensures.ok (batches ++ before.0) before.2 in
+      let bodies = bodies_step c.args.items.now c.loop-item.item-index c.item-item.result c.loop-item-test.true c.item-item.is in (
+        before.0 ++ more.0 ∷ [],
+        subst (λ bs. AreRecords c.args.session bs (before.0 ++ more.0 ∷ [])) (sym bodies) (one_more_record c.args.session _ _ before.0 more.0 before.1 more.1 more.2),
+        subst (λ (bs : Batches). IsReplayOf c.replay_record.new.self bs) (append_assoc batches before.0 (more.0 ∷ [])) more.3,
+      );
   here = inr c.in-Ok.ensures.here;
 }
 

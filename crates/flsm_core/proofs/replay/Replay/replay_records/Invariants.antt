@@ -10,6 +10,6 @@ use Rattle.flsm_core.proofs.replay.Replay.replay_records.Given as goal
 abbrev pub invariant-loop-item : goal.invariant-loop-item
 invariant-loop-item l = record {
   so_far : (batches : Batches) → IsReplayOf l.initial.self batches
-    → (own : Batches) × AreRecords l.session (bodies_of (take l.item-index l.items)) own × IsReplayOf l.self (batches ++ own);
-  here : (l.self.last ≡ l.initial.self.last) ⊎ (session_of l.self.last ≡ l.session)
+      → (own : Batches) × AreRecords l.session (bodies_of (take l.item-index l.items)) own × IsReplayOf l.self (batches ++ own);
+  here : (l.self.last ≡ l.initial.self.last) ⊎ (session_of l.self.last ≡ l.session);
 }

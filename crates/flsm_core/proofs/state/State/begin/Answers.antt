@@ -10,22 +10,22 @@ returns-in-Ok-clause-stands g c = λ start honest logs batches began is quiet pa
     let d = device g.J.Journal.tells g.J.Journal.seen g.J.Journal.may_leave g.J.Journal.moment g.J.Journal.left_since in
     let at : c.args.found.logs + 1 ≡ suc (length logs) = omega (arith, is.count) in
     at_opened d c.args.journal _ start honest (c.args.found.logs + 1) (c.args.found.greatest + 1) c.of_log-header.result logs batches at
-      (ap (λ (h : Header). h.session) c.of_log-header.ensures) began
-      (record { session = refl; ordered = is.replay.ordered; last = is.replay.last; current = is.replay.current; stopped = refl; tail = c.in-Ok.ensures.empty })
-      c.create.ensures.time quiet
-      (λ told. record {
-        images = c.create.ensures.any_moment told;
-        counts = λ image left. g.met.J.Journal.counts_now c.create.new.journal _ image c.create.ensures.time.later left;
-        ready = c.in-Ok.ensures.ready told;
-        file = c.in-Ok.ensures.file;
-        tail = c.in-Ok.ensures.empty;
-        elsewhere = c.create.ensures.elsewhere;
-      })
-      past
+    (ap (λ (h : Header). h.session) c.of_log-header.ensures) began
+    (record { session = refl; ordered = is.replay.ordered; last = is.replay.last; current = is.replay.current; stopped = refl; tail = c.in-Ok.ensures.empty })
+    c.create.ensures.time quiet
+    (λ told. record {
+      images = c.create.ensures.any_moment told;
+      counts = λ image left. g.met.J.Journal.counts_now c.create.new.journal _ image c.create.ensures.time.later left;
+      ready = c.in-Ok.ensures.ready told;
+      file = c.in-Ok.ensures.file;
+      tail = c.in-Ok.ensures.empty;
+      elsewhere = c.create.ensures.elsewhere;
+    })
+    past
 
 pub returns-in-Err-clause-images : goal.returns-in-Err-clause-images
 returns-in-Err-clause-images g c = λ told logs batches is quiet image left.
     let d = device g.J.Journal.tells g.J.Journal.seen g.J.Journal.may_leave g.J.Journal.moment g.J.Journal.left_since in
     let at : c.args.found.logs + 1 ≡ suc (length logs) = omega (arith, is.count) in
     create_leaves d c.args.journal c.create.new.journal true (c.args.found.logs + 1) c.of_log-header.result logs batches image at quiet refl (c.create.ensures.any_moment told)
-      (g.met.J.Journal.counts_now c.create.new.journal _ image c.create.ensures.time.later left)
+    (g.met.J.Journal.counts_now c.create.new.journal _ image c.create.ensures.time.later left)

@@ -26,10 +26,10 @@ returns-in-Ok-clause-stands g c = if_ok c.begin.result _ _ (λ state at told hon
     let stands = stands_read honest base (g.J.Journal.seen c.args.journal) (g.J.Journal.may_leave c.args.journal) read.read on in
     let same = (same_base fin one c.one_batch.ensures d c.args.journal c.read_logs.new.journal found.0 found.1 base read stands).batches in
     subst (λ (b : Batches). IsAt d state (opened start honest b)) same
-      (at start honest found.0 found.1 c.read_logs.ensures.watched.time.later found.2
-        (λ told. quiet_after fin one c.one_batch.ensures d c.args.journal c.read_logs.new.journal honest found.0 found.1 base read on)
-        (λ told sure image left. subst (λ (b : Batches). Stands b image) (sym same)
-          (past_stands d c.args.journal c.read_logs.new.journal honest found.0 found.1 base read sure on image left))))
+    (at start honest found.0 found.1 c.read_logs.ensures.watched.time.later found.2
+    (λ told. quiet_after fin one c.one_batch.ensures d c.args.journal c.read_logs.new.journal honest found.0 found.1 base read on)
+    (λ told sure image left. subst (λ (b : Batches). Stands b image) (sym same)
+    (past_stands d c.args.journal c.read_logs.new.journal honest found.0 found.1 base read sure on image left))))
     c.begin.ensures.stands
 
 pub returns-in-Ok-clause-fresh : goal.returns-in-Ok-clause-fresh
@@ -64,7 +64,7 @@ returns-in-Ok-clause-images g c = if_err c.begin.result _ _ (λ e images told ba
     let one = c.one_reading.ensures.one_log in
     let same = (same_base fin one c.one_batch.ensures d c.args.journal c.read_logs.new.journal found.0 found.1 base read (on (g.J.Journal.seen c.args.journal) read.read)).batches in
     subst (λ (b : Batches). Stands b image) same
-      (images told found.0 found.1 found.2 (quiet_after fin one c.one_batch.ensures d c.args.journal c.read_logs.new.journal true found.0 found.1 base read on) image left))
+    (images told found.0 found.1 found.2 (quiet_after fin one c.one_batch.ensures d c.args.journal c.read_logs.new.journal true found.0 found.1 base read on) image left))
     c.begin.ensures.images
 
 pub returns-in-Err-clause-images : goal.returns-in-Err-clause-images

@@ -16,26 +16,26 @@ returns-clause-stands g c = λ p is.
     let d = device g.J.Journal.tells g.J.Journal.seen g.J.Journal.may_leave g.J.Journal.moment g.J.Journal.left_since in
     let batch : c.in-Ok.batch ≡ put_op c.args.key c.args.value ∷ [] = c.in-Ok.ensures in
     let body : c.in-Ok-write_batch.body.items ≡ batch_bytes c.in-Some.number (put_op c.args.key c.args.value ∷ []) =
-      c.in-Ok-write_batch.ensures.bytes ∙ ap (batch_bytes c.in-Some.number) batch in
+    c.in-Ok-write_batch.ensures.bytes ∙ ap (batch_bytes c.in-Some.number) batch in
     let spelled = body ∙ sym (record_of-is (c.in-Some.number, put_op c.args.key c.args.value ∷ [])) in
     at_put d c.args.self.now _ c.args.self.now.session c.in-Some.number (put_op c.args.key c.args.value) p
-      (record {
-        journal = refl;
-        session = refl;
-        stopped = refl;
-        file = c.add.ensures.file ∙ c.reserve.ensures.file;
-        place = c.add.ensures.place ∙ c.reserve.ensures.place;
-        tail = c.in-Ok-add.ensures.ok ∙ ap (λ t. t ++ record_bytes c.deref.result.now) c.reserve.ensures.tail
+    (record {
+      journal = refl;
+      session = refl;
+      stopped = refl;
+      file = c.add.ensures.file ∙ c.reserve.ensures.file;
+      place = c.add.ensures.place ∙ c.reserve.ensures.place;
+      tail = c.in-Ok-add.ensures.ok ∙ ap (λ t. t ++ record_bytes c.deref.result.now) c.reserve.ensures.tail
           ∙ ap (λ b. log_tail c.args.self.now.log ++ record_bytes b) (c.deref.ensures.value ∙ spelled);
-        last = refl;
-        current = c.in-Ok-apply_one.ensures.ok (put_op c.args.key c.args.value) batch;
-        batch = record {
-          batch = subst (λ (ops : List Op). IsBatch c.in-Some.number ops) batch c.in-Ok-write_batch.ensures.batch;
-          here = c.in-Some.ensures.here;
-        };
-      })
-      (c.in-Some.ensures.next ∙ ap (λ (n : ℕ). max n (c.args.self.now.session * 2 ^ 40) + 1) is.last)
-      is
+      last = refl;
+      current = c.in-Ok-apply_one.ensures.ok (put_op c.args.key c.args.value) batch;
+      batch = record {
+        batch = subst (λ (ops : List Op). IsBatch c.in-Some.number ops) batch c.in-Ok-write_batch.ensures.batch;
+        here = c.in-Some.ensures.here;
+      };
+    })
+    (c.in-Some.ensures.next ∙ ap (λ (n : ℕ). max n (c.args.self.now.session * 2 ^ 40) + 1) is.last)
+    is
 
 pub returns-clause-sound : goal.returns-clause-sound
 returns-clause-sound g c = λ sound told fine. let able = sound told fine in record {
@@ -43,7 +43,7 @@ returns-clause-sound g c = λ sound told fine. let able = sound told fine in rec
   groups = able.groups;
   bodies = able.bodies ++ c.deref.result.now ∷ [];
   ready = ready_with g.J.Journal.tells g.J.Journal.seen g.J.Journal.may_leave c.args.self.now.journal c.args.self.now.log c.add.new.self able.header able.groups
-    (c.add.ensures.file ∙ c.reserve.ensures.file) (c.add.ensures.place ∙ c.reserve.ensures.place) able.ready;
+      (c.add.ensures.file ∙ c.reserve.ensures.file) (c.add.ensures.place ∙ c.reserve.ensures.place) able.ready;
   tail = c.in-Ok-add.ensures.ok ∙ ap (λ t. t ++ record_bytes c.deref.result.now) (c.reserve.ensures.tail ∙ able.tail) ∙ sym (records-push able.bodies c.deref.result.now);
 }
 
@@ -52,9 +52,9 @@ returns-in-Err-Full-clause-answers g c = λ p is.
     let fine : p.stopped ≡ false = sym is.stopped ∙ c.if-self.false in
     let ops : List Op = put_op c.args.key c.args.value ∷ [] in
     let numbered : c.in-Some.number ≡ next_number c.args.self.now.session (all_of p) =
-      c.in-Some.ensures.next ∙ ap (λ (n : ℕ). max n (c.args.self.now.session * 2 ^ 40) + 1) is.last in
+    c.in-Some.ensures.next ∙ ap (λ (n : ℕ). max n (c.args.self.now.session * 2 ^ 40) + 1) is.last in
     let body : c.in-Ok-write_batch.body.items ≡ record_of (next_number c.args.self.now.session (all_of p), ops) =
-      c.in-Ok-write_batch.ensures.bytes ∙ ap (batch_bytes c.in-Some.number) c.in-Ok.ensures ∙ sym (record_of-is (c.in-Some.number, ops)) ∙ ap (λ n. record_of (n, ops)) numbered in
+    c.in-Ok-write_batch.ensures.bytes ∙ ap (batch_bytes c.in-Some.number) c.in-Ok.ensures ∙ sym (record_of-is (c.in-Some.number, ops)) ∙ ap (λ n. record_of (n, ops)) numbered in
     let over : 2 ^ 31 < length (log_tail c.args.self.now.log) + 4 + c.len.result = c.in-Err-Full.ensures.full.0 (ap Err c.in-Err-Full.field-0-is) in
     let tail = ap length (is.waits fine).tail in
     let size = ap length body in
