@@ -1,5 +1,5 @@
 -- Where a state stands after a call.
-use Rattle.std.proofs.Common.{◌≡◌, ◌⊎◌, ℕ, suc, ◌+◌, ◌-◌, ◌*◌, ◌^◌, ◌<◌, ◌≤◌, max, Bool, true, false, IsTrue, List, [], ◌∷◌, ◌++◌, map, length, Option, None, Some, refl, sym, ap, ◌∙◌, subst, arith, inl, inr, append_assoc}
+use Rattle.std.proofs.Common.{◌≡◌, ℕ, suc, ◌+◌, ◌-◌, ◌<◌, ◌≤◌, Bool, true, false, IsTrue, List, [], ◌∷◌, ◌++◌, length, sym, ap, ◌∙◌, subst, arith, inl, inr, append_assoc}
 use Rattle.std.proofs.lemmas.List.{append-nil}
 use Rattle.std.specs.List.{AllByRecursion}
 use Rattle.peb_base.specs.declared.op.Op.{Op}
@@ -7,12 +7,10 @@ use Rattle.peb_base.specs.Numbers.{session_of}
 use Rattle.peb_base.specs.Batches.{Batches, last_number, are_in_order}
 use Rattle.peb_base.specs.Map.{apply_change, map_at}
 use Rattle.peb_base.specs.MapLaws.{last_of_push, in_order_push, map_after_one}
-use Rattle.disk_model.specs.declared.journal_file.JournalFile.{JournalFile}
-use Rattle.disk_model.specs.declared.journal_file.JournalFile.TheVariants.{Log}
 use Rattle.disk_model.specs.Images.{Image, Elapses}
 use Rattle.record_log.specs.declared.log_file.LogFile.{LogFile}
 use Rattle.record_log.specs.declared.header.Header.{Header}
-use Rattle.record_log.specs.Groups.{record_bytes, records_bytes}
+use Rattle.record_log.specs.Groups.{record_bytes}
 use Rattle.record_log.specs.State.{log_file, log_place, log_tail}
 use Rattle.record_log.specs.Ready.{ready_with}
 use Rattle.flsm_core.specs.declared.state.State.{State}

@@ -1,5 +1,5 @@
 -- What an opening finds, one log after another.
-use Rattle.std.proofs.Common.{◌≡◌, ◌≢◌, ◌⊎◌, ℕ, suc, ◌+◌, ◌<◌, ◌≤◌, max, Bool, true, List, [], ◌∷◌, ◌++◌, map, length, get_or, Option, Some, None, refl, sym, ap, ◌∙◌, subst, arith, append_assoc, length-append, inl, inr}
+use Rattle.std.proofs.Common.{◌≡◌, ℕ, suc, ◌+◌, max, true, List, [], ◌∷◌, ◌++◌, map, length, Option, Some, refl, sym, ap, ◌∙◌, subst, arith, append_assoc, length-append, inl, inr}
 use Rattle.std.specs.List.{AllByRecursion}
 use Rattle.std.proofs.lemmas.List.{append-nil}
 use Rattle.peb_base.specs.declared.profile.Profile.{Profile}
@@ -10,8 +10,8 @@ use Rattle.disk_model.specs.Images.{Image}
 use Rattle.record_log.specs.declared.header.Header.{Header}
 use Rattle.record_log.specs.declared.record.Record.{Record}
 use Rattle.record_log.specs.Groups.{group_bytes, placed}
-use Rattle.record_log.specs.Log.{IsLog, IsUnfinished, IsDamaged, Holds}
-use Rattle.record_log.specs.Records.{body_of, view_of, bodies_of, views}
+use Rattle.record_log.specs.Log.{IsLog, IsUnfinished, IsDamaged}
+use Rattle.record_log.specs.Records.{body_of, bodies_of, views}
 use Rattle.flsm_core.specs.declared.found.Found.{Found}
 use Rattle.flsm_core.specs.Logs.{Held, flat, HoldsLogs, BeginsLogs, AreRecords, IsBatchIn, Spells, SpellsAll, Reads, greatest_session}
 use Rattle.flsm_core.specs.Opening.{IsReplayOf, IsFound, CantGoOn, IsUnreadable}

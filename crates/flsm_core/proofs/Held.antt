@@ -1,10 +1,7 @@
 -- Logs one after another in an image, and what a step of one file does to them.
-use Rattle.std.proofs.Common.{◌≡◌, ◌≢◌, ℕ, suc, ◌+◌, ◌<◌, ◌≤◌, List, [], ◌∷◌, ◌++◌, length, Option, None, Some, refl, sym, ap, ◌∙◌, subst, arith, inl, inr, length-append}
-use Rattle.std.proofs.lemmas.Bool.{cases_lt}
-use Rattle.disk_model.specs.declared.journal_file.JournalFile.{JournalFile}
+use Rattle.std.proofs.Common.{◌≡◌, ◌≢◌, ℕ, suc, ◌+◌, ◌<◌, ◌≤◌, List, [], ◌∷◌, ◌++◌, length, None, sym, ◌∙◌, subst, arith}
 use Rattle.disk_model.specs.declared.journal_file.JournalFile.TheVariants.{Log}
 use Rattle.disk_model.specs.Images.{Image}
-use Rattle.record_log.specs.declared.header.Header.{Header}
 use Rattle.record_log.specs.Log.{IsLog, IsUnfinished}
 use Rattle.flsm_core.specs.Logs.{Held, HoldsLogs}
 

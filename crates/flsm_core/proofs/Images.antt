@@ -1,6 +1,5 @@
 -- What a crash leaves of the logs, in the calls on them.
-use Rattle.std.proofs.Common.{◌≡◌, ◌≢◌, ◌⊎◌, ℕ, suc, ◌+◌, ◌<◌, ◌≤◌, Bool, true, false, IsTrue, List, [], ◌∷◌, ◌++◌, map, length, Option, None, Some, refl, sym, ap, ◌∙◌, subst, arith, inl, inr, length-append}
-use Rattle.std.specs.Prelude.{nat_eq}
+use Rattle.std.proofs.Common.{◌≡◌, ◌≢◌, ◌⊎◌, ℕ, suc, ◌<◌, Bool, true, IsTrue, List, [], ◌∷◌, ◌++◌, map, length, Option, None, sym, ap, ◌∙◌, subst, arith, inl, inr, length-append}
 use Rattle.std.proofs.lemmas.Bool.{cases_order}
 use Rattle.peb_base.specs.Batches.{Batches, are_in_order}
 use Rattle.disk_model.specs.declared.journal_file.JournalFile.{JournalFile}
@@ -15,10 +14,10 @@ use Rattle.record_log.specs.State.{log_file, log_tail}
 use Rattle.record_log.specs.Ready.{IsReady, IsBeforeOrAfter}
 use Rattle.flsm_core.specs.Device.{Device}
 use Rattle.std.specs.List.{AllByRecursion}
-use Rattle.flsm_core.specs.Logs.{Held, IsBatchIn, HoldsLogs, SpellsAll, Reads, Stands, record_of}
+use Rattle.flsm_core.specs.Logs.{Held, IsBatchIn, HoldsLogs, SpellsAll, Stands, record_of}
 use Rattle.flsm_core.specs.Opening.{Quiet}
 use Rattle.flsm_core.specs.Place.{Place, all_of, all_settled, opened}
-use Rattle.flsm_core.specs.Standing.{IsFront, Leaves, Waits, Rests}
+use Rattle.flsm_core.specs.Standing.{Leaves, Waits, Rests}
 use Rattle.flsm_core.proofs.Orders.{front_in_order, front_refl, front_more}
 use Rattle.flsm_core.proofs.Spelled.{closed, fresh, spells_group, spells_one_more}
 use Rattle.flsm_core.proofs.Held.{logs_differ, below, above, holds_same, holds_changed, holds_next, holds_begun, holds_end}
@@ -78,9 +77,9 @@ close_leaves d old new log session p image rests waits ordered honest any left =
     rests.file (any current.header current.groups bodies rests.ready waits.tail) in
     let step = stepped d old k (λ before after. IsBeforeOrAfter (Log k) current.header current.groups bodies after) (d.left_since new (d.moment old)) (omega arith) (rests.only honest) whole image left in
     let none : (n : ℕ) → n ≡ suc k → (m : ℕ) → n < m → image (Log m) ≡ None = λ n is m lt.
-    step.elsewhere m (omega (arith, lt)) (above m k (omega (arith, is, lt))) ∙ rests.none_above m (omega (arith, is, lt)) in
+    step.elsewhere m (omega (arith, lt)) (above m k (omega (arith, is, lt))) ∙ rests.none_above honest m (omega (arith, is, lt)) in
     let after : (log' : Held) → IsLog (Log k) log'.header log'.groups (image (Log k)) → HoldsLogs 1 (rests.logs ++ log' ∷ []) image = λ log' made.
-    holds_changed 1 k rests.logs current log' (d.seen old) image (omega arith) (λ m le. step.elsewhere m (omega (arith, le))) made rests.holds in
+    holds_changed 1 k rests.logs current log' (d.seen old) image (omega arith) (λ m le. step.elsewhere m (omega (arith, le))) made (rests.holds honest) in
     let size : (log' : Held) → suc (length (rests.logs ++ log' ∷ [])) ≡ suc k = λ log'. omega (arith, length-append rests.logs (log' ∷ [])) in
     elim step.here [
       | inl before ↦ record {
@@ -141,9 +140,9 @@ close_rests d old new log log' session p rests waits call =
     record {
       logs = rests.logs;
       current = closed current p.waiting;
-      holds = holds_changed 1 k rests.logs current (closed current p.waiting) (d.seen old) (d.seen new) (omega arith) (λ m le. same m (omega (arith, le))) made rests.holds;
+      holds = λ sure. holds_changed 1 k rests.logs current (closed current p.waiting) (d.seen old) (d.seen new) (omega arith) (λ m le. same m (omega (arith, le))) made (rests.holds sure);
       spelled = spells_group rests.logs current p.settled p.waiting (subst (λ (s : ℕ). AllByRecursion (IsBatchIn s) p.waiting) (sym rests.owned) waits.each) rests.spelled;
-      none_above = λ m lt. same m (omega (arith, lt)) (above m k (omega (arith, lt))) ∙ rests.none_above m lt;
+      none_above = λ sure m lt. same m (omega (arith, lt)) (above m k (omega (arith, lt))) ∙ rests.none_above sure m lt;
       file = file;
       owned = rests.owned;
       ready = ready;
@@ -160,8 +159,8 @@ rests_leaves d journal log session p image rests ordered honest left =
       batches = p.settled;
       enough = front_refl p.settled;
       within = front_more p.settled p.waiting;
-      stands = stands_of p.settled logs image (holds_same 1 logs (d.seen journal) image (λ m le. same m (omega (arith, le))) rests.holds) rests.spelled (front_in_order p.settled p.waiting ordered)
-          (λ m lt. same m (omega (arith, lt)) ∙ rests.none_above m (omega (arith, lt, length-append rests.logs (rests.current ∷ []))));
+      stands = stands_of p.settled logs image (holds_same 1 logs (d.seen journal) image (λ m le. same m (omega (arith, le))) (rests.holds honest)) rests.spelled (front_in_order p.settled p.waiting ordered)
+          (λ m lt. same m (omega (arith, lt)) ∙ rests.none_above honest m (omega (arith, lt, length-append rests.logs (rests.current ∷ []))));
     }
 
 -- ---- creating the next log
@@ -183,16 +182,16 @@ create_leaves d old new honest k header logs batches image at quiet sure follows
     let step = stepped d old k (Creates (Log k) header) (d.left_since new (d.moment old)) (omega (arith, at)) (quiet.only sure) follows image left in
     let begun : IsUnfinished (image (Log k)) → Stands batches image = λ unfinished.
     stands_of batches logs image (holds_begun 1 k logs (d.seen old) image (omega (arith, at)) (λ m le. step.elsewhere m (omega (arith, le))) unfinished quiet.reads.holds) quiet.reads.spelled quiet.reads.ordered
-    (λ m lt. step.elsewhere m (omega (arith, lt)) (above m k (omega (arith, at, lt))) ∙ quiet.none_above m lt) in
+    (λ m lt. step.elsewhere m (omega (arith, lt)) (above m k (omega (arith, at, lt))) ∙ quiet.none_above sure m lt) in
     elim step.here [
       | inl stays ↦ begun (subst IsUnfinished (sym stays) (holds_end 1 k logs (d.seen old) (omega (arith, at)) quiet.reads.holds))
       | inr more ↦ elim more [
         | inl unfinished ↦ begun unfinished
         | inr made ↦ stands_of batches (logs ++ fresh header ∷ []) image
-            (holds_next 1 k logs (fresh header) (d.seen old) image (omega (arith, at)) (λ m le. step.elsewhere m (omega (arith, le))) (quiet.none_above (suc k) (omega (arith, at))) made quiet.reads.holds)
+            (holds_next 1 k logs (fresh header) (d.seen old) image (omega (arith, at)) (λ m le. step.elsewhere m (omega (arith, le))) (quiet.none_above sure (suc k) (omega (arith, at))) made quiet.reads.holds)
             (spells_one_more logs header batches quiet.reads.spelled) quiet.reads.ordered
             (λ m lt. let size = length-append logs (fresh header ∷ []) in
-            step.elsewhere m (omega (arith, lt)) (above m k (omega (arith, at, lt, size))) ∙ quiet.none_above m (omega (arith, at, lt, size)))
+            step.elsewhere m (omega (arith, lt)) (above m k (omega (arith, at, lt, size))) ∙ quiet.none_above sure m (omega (arith, at, lt, size)))
       ]
     ]
 
@@ -206,9 +205,9 @@ create_rests d old new honest k start session header log logs batches at owned q
     record {
       logs = logs;
       current = fresh header;
-      holds = holds_next 1 k logs (fresh header) (d.seen old) (d.seen new) (omega (arith, at)) (λ m le. same m (omega (arith, le))) (quiet.none_above (suc k) (omega (arith, at))) made quiet.reads.holds;
+      holds = λ sure. holds_next 1 k logs (fresh header) (d.seen old) (d.seen new) (omega (arith, at)) (λ m le. same m (omega (arith, le))) (quiet.none_above sure (suc k) (omega (arith, at))) made quiet.reads.holds;
       spelled = spells_one_more logs header batches quiet.reads.spelled;
-      none_above = λ m lt. same m (omega (arith, lt)) (above m k (omega (arith, at, lt))) ∙ quiet.none_above m (omega (arith, lt));
+      none_above = λ sure m lt. same m (omega (arith, lt)) (above m k (omega (arith, at, lt))) ∙ quiet.none_above sure m (omega (arith, lt));
       file = call.file ∙ ap Log at;
       owned = owned;
       ready = call.ready;

@@ -1,11 +1,11 @@
 -- The steps of an opening.
-use Rattle.std.proofs.Common.{◌≡◌, ◌≢◌, ◌⊎◌, ℕ, suc, ◌+◌, ◌<◌, ◌≤◌, Bool, true, false, IsTrue, List, [], ◌∷◌, ◌++◌, length, Option, Some, None, Result, Ok, Err, refl, sym, ap, ◌∙◌, subst, arith, inl, inr}
+use Rattle.std.proofs.Common.{◌≡◌, ℕ, suc, ◌+◌, ◌<◌, ◌≤◌, Bool, true, false, IsTrue, List, [], ◌∷◌, length, Some, None, Result, Ok, Err, refl, sym, ap, ◌∙◌, subst, arith, inl, inr}
 use Rattle.std.specs.Prelude.{IfOk, IfErr}
 use Rattle.std.proofs.lemmas.List.{append-nil}
 use Rattle.peb_base.specs.declared.profile.Profile.{Profile}
 use Rattle.peb_base.specs.Batches.{Batches}
 use Rattle.disk_model.specs.declared.journal_file.JournalFile.TheVariants.{Log}
-use Rattle.disk_model.specs.Images.{Image, In, Stays, Follows, Keeps, Elapses}
+use Rattle.disk_model.specs.Images.{Image, Keeps}
 use Rattle.std.proofs.lemmas.Bool.{cases_lt}
 use Rattle.disk_model.specs.Moments.{elapses_on, elapses_none}
 use Rattle.record_log.specs.declared.header.Header.{Header}
@@ -19,9 +19,9 @@ use Rattle.flsm_core.specs.declared.open_fault.OpenFault.{OpenFault}
 use Rattle.flsm_core.specs.declared.open_fault.OpenFault.TheVariants as opens
 use Rattle.flsm_core.specs.declared.found.Found.{Found}
 use Rattle.flsm_core.specs.Device.{Device}
-use Rattle.flsm_core.specs.Logs.{Held, flat, BeginsLogs, HoldsLogs, SpellsAll, Reads, Stands}
+use Rattle.flsm_core.specs.Logs.{Held, flat, BeginsLogs, HoldsLogs, Reads, Stands}
 use Rattle.flsm_core.specs.Opening.{IsFound, CantGoOn, AddCause, OpenCause, HasWatched, AreKept, OpensOn, Quiet, fault_of}
-use Rattle.flsm_core.proofs.Founds.{OneLog, Undamaged, Finished, unreadable_log, unreadable_records, bodies_read, begins_more, one_reading, SameReading}
+use Rattle.flsm_core.proofs.Founds.{OneLog, Undamaged, Finished, unreadable_log, unreadable_records, bodies_read, one_reading, SameReading}
 use Rattle.flsm_core.proofs.Replays.{OneBatch}
 
 -- the next log wasn't read
@@ -151,7 +151,7 @@ quiet_after fin one batch d old new honest held batches base found on =
     ap (λ (i : Image). i (Log m)) seen ∙ stands.none_above m (subst (λ (l : List Held). suc (length l) < m) same.logs lt) in
     record {
       reads = subst (λ (i : Image). Reads i held batches) (sym seen) found.reads;
-      none_above = none;
+      none_above = λ sure. none;
       only = λ sure image left m some. elim (cases_lt (suc (length held)) m) [
         | inl high ↦
             let from = found.watched.each image (found.counts image left) in

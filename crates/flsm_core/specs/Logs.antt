@@ -1,10 +1,9 @@
 -- The logs of an image, and the batches that they spell.
-use Rattle.std.specs.Prelude.{◌≡◌, ℕ, suc, ◌<◌, max, true, List, [], ◌∷◌, ◌++◌, map, length, Option, None, refl}
+use Rattle.std.specs.Prelude.{◌≡◌, ℕ, suc, ◌<◌, max, true, List, [], ◌∷◌, ◌++◌, map, length, None, refl}
 use Rattle.std.specs.List.{AllByRecursion}
 use Rattle.peb_base.specs.declared.op.Op.{Op}
 use Rattle.peb_base.specs.Numbers.{session_of}
 use Rattle.peb_base.specs.Batches.{Batches, are_in_order}
-use Rattle.disk_model.specs.declared.journal_file.JournalFile.{JournalFile}
 use Rattle.disk_model.specs.declared.journal_file.JournalFile.TheVariants.{Log}
 use Rattle.disk_model.specs.Images.{Image}
 use Rattle.record_log.specs.declared.header.Header.{Header}

@@ -1,7 +1,6 @@
 -- What an opening reads, and why it is refused.
-use Rattle.std.specs.Prelude.{◌≡◌, ◌≢◌, ℕ, suc, ◌<◌, ◌≤◌, None, Bool, true, false, IsTrue, List, [], ◌∷◌, ◌++◌, length}
+use Rattle.std.specs.Prelude.{◌≡◌, ◌≢◌, ℕ, suc, ◌<◌, ◌≤◌, None, Bool, true, false, IsTrue, List, ◌++◌, length}
 use Rattle.std.specs.List.{AllByRecursion}
-use Rattle.peb_base.specs.declared.file_name.FileName.{FileName}
 use Rattle.peb_base.specs.declared.file_name.FileName.TheVariants as names
 use Rattle.peb_base.specs.declared.limit_kind.LimitKind.TheVariants as kinds
 use Rattle.peb_base.specs.declared.profile.Profile.{Profile}
@@ -20,7 +19,7 @@ use Rattle.flsm_core.specs.declared.replay_fault.ReplayFault.TheVariants as repl
 use Rattle.flsm_core.specs.declared.replay.Replay.{Replay}
 use Rattle.flsm_core.specs.declared.found.Found.{Found}
 use Rattle.flsm_core.specs.Device.{Device}
-use Rattle.flsm_core.specs.Logs.{Held, HoldsLogs, AreRecords, SpellsAll, Reads, Stands, greatest_session}
+use Rattle.flsm_core.specs.Logs.{Held, AreRecords, SpellsAll, Reads, Stands, greatest_session}
 
 -- what an opening rests on: each image that a crash may leave stands for the base, or at least what reads give does
 abbrev pub OpensOn : Bool → Batches → Image → (Image → Type 0) → Type 0
@@ -91,7 +90,7 @@ AddCause profile number header P opens.Memory = Unit {0}
 -- what was read of the logs, once they were synced: a crash leaves them so
 pub record Quiet {D : Type 0} (d : Device D) (journal : D) (honest : Bool) (logs : List Held) (batches : Batches) : Type 0 where
   pub reads : Reads (d.seen journal) logs batches
-  pub none_above : (m : ℕ) → suc (length logs) < m → d.seen journal (Log m) ≡ None
+  pub none_above : IsTrue honest → (m : ℕ) → suc (length logs) < m → d.seen journal (Log m) ≡ None
   pub only : IsTrue honest → (image : Image) → d.may_leave journal image → (m : ℕ) → 0 < m → image (Log m) ≡ d.seen journal (Log m)
 
 -- what the fault of a log means to an opening

@@ -1,11 +1,10 @@
 -- What a state stands for.
-use Rattle.std.specs.Prelude.{◌≡◌, ℕ, suc, ◌+◌, ◌*◌, ◌^◌, ◌<◌, ◌≤◌, Bool, true, false, IsTrue, None, List, [], ◌∷◌, ◌++◌, map, length}
+use Rattle.std.specs.Prelude.{◌≡◌, ℕ, suc, ◌<◌, ◌≤◌, true, false, IsTrue, None, List, [], ◌∷◌, ◌++◌, map, length}
 use Rattle.std.specs.List.{AllByRecursion}
 use Rattle.peb_base.specs.Batches.{Batches, last_number, are_in_order}
 use Rattle.peb_base.specs.Map.{map_at}
 use Rattle.disk_model.specs.declared.journal_file.JournalFile.TheVariants.{Log}
 use Rattle.disk_model.specs.Images.{Image}
-use Rattle.record_log.specs.declared.header.Header.{Header}
 use Rattle.record_log.specs.declared.log_file.LogFile.{LogFile}
 use Rattle.record_log.specs.Groups.{records_bytes}
 use Rattle.record_log.specs.State.{log_file, log_tail}
@@ -35,9 +34,9 @@ pub record Waits (log : LogFile) (session : ℕ) (p : Place) : Type 0 where
 pub record Rests {D : Type 0} (d : Device D) (journal : D) (log : LogFile) (session : ℕ) (p : Place) : Type 0 where
   pub logs : List Held
   pub current : Held
-  pub holds : HoldsLogs 1 (logs ++ current ∷ []) (d.seen journal)
+  pub holds : IsTrue p.honest → HoldsLogs 1 (logs ++ current ∷ []) (d.seen journal)
   pub spelled : SpellsAll (logs ++ current ∷ []) p.settled
-  pub none_above : (m : ℕ) → suc (suc (length logs)) < m → d.seen journal (Log m) ≡ None
+  pub none_above : IsTrue p.honest → (m : ℕ) → suc (suc (length logs)) < m → d.seen journal (Log m) ≡ None
   pub file : log_file log ≡ Log (suc (length logs))
   pub owned : current.header.session ≡ session
   pub ready : IsReady d.tells d.seen d.may_leave journal log current.header current.groups
@@ -58,22 +57,3 @@ pub record IsAt {D : Type 0} (d : Device D) (state : State D) (p : Place) : Type
   -- now it leaves the settled ones
   pub now : IsTrue d.tells → IsTrue p.honest → (image : Image) → d.may_leave state.journal image → Leaves p.settled (all_of p) image
   pub rests : IsTrue d.tells → p.stopped ≡ false → Rests d state.journal state.log state.session p
-
--- words for what the layers above may say of a state
-abbrev pub session_of_state : {D : Type 0} → State D → ℕ
-session_of_state state = state.session
-
-abbrev pub faults_of_state : {D : Type 0} → (D → ℕ) → State D → ℕ
-faults_of_state faults state = faults state.journal
-
--- the log of a state can take a group of the records that wait
-pub record IsOpen {D : Type 0} (d : Device D) (journal : D) (log : LogFile) : Type 0 where
-  pub header : Header
-  pub groups : List (List (List ℕ))
-  pub bodies : List (List ℕ)
-  pub ready : IsReady d.tells d.seen d.may_leave journal log header groups
-  pub tail : log_tail log ≡ records_bytes bodies
-
--- it can, unless the journal has failed
-abbrev pub IsSound : {D : Type 0} → Device D → State D → Type 0
-IsSound d state = IsTrue d.tells → state.stopped ≡ false → IsOpen d state.journal state.log

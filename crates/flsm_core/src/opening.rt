@@ -86,7 +86,8 @@ fn read_logs<J: Journal>(
 
 impl<J: Journal> State<J> {
     ghost use Rattle.flsm_core.specs.Opening.{OpensOn, Quiet};
-    ghost use Rattle.flsm_core.specs.Standing.{IsAt, IsSound, Leaves, session_of_state, faults_of_state};
+    ghost use Rattle.flsm_core.specs.Standing.{IsAt};
+    ghost use Rattle.flsm_core.specs.State.{state_session, state_journal};
 
     /// Creates the next log over what was read.
     fn begin(
@@ -99,9 +100,8 @@ impl<J: Journal> State<J> {
             → (IsTrue J.tells → Quiet (device J.tells J.seen J.may_leave J.moment J.left_since) journal honest logs batches)
             → (IsTrue J.tells → IsTrue honest → (image : Image) → J.left_since journal start image → Stands batches image)
             → IsAt (device J.tells J.seen J.may_leave J.moment J.left_since) state (opened start honest batches)) }
-        ensures sound { IfOk result (λ state. IsSound (device J.tells J.seen J.may_leave J.moment J.left_since) state) }
-        ensures session { IfOk result (λ state. session_of_state state ≡ found.greatest + 1) }
-        ensures later { IfOk result (λ state. J.faults journal ≤ faults_of_state J.faults state) }
+        ensures session { IfOk result (λ state. state_session state ≡ found.greatest + 1) }
+        ensures later { IfOk result (λ state. J.faults journal ≤ J.faults (state_journal state)) }
         ensures cause { IfErr result (λ e. OpenCause (Rose (J.faults journal) (J.faults e.1)) J.tells (J.seen journal) profile e.0) }
         ensures later_err { IfErr result (λ e. J.faults journal ≤ J.faults e.1) }
         ensures images { IfErr result (λ e. IsTrue J.tells → (logs : List Held) (batches : Batches) → IsFound profile found logs batches
@@ -135,10 +135,10 @@ impl<J: Journal> State<J> {
     pub fn open(alloc: Global, journal: J, profile: Profile) -> Result<State<J>, (OpenFault, J)>
         ensures stands { IfOk result (λ state. IsTrue J.tells → (honest : Bool) (base : Batches) → OpensOn honest base (J.seen journal) (J.may_leave journal)
             → IsAt (device J.tells J.seen J.may_leave J.moment J.left_since) state (opened (J.moment journal) honest base)) }
-        ensures sound { IfOk result (λ state. IsSound (device J.tells J.seen J.may_leave J.moment J.left_since) state) }
-        ensures session { IfOk result (λ state. IsTrue J.tells → (logs : List Held) × HoldsLogs 1 logs (J.seen journal) × (session_of_state state ≡ suc (greatest_session logs))) }
-        ensures fresh { IfOk result (λ state. IsTrue J.tells → (base : Batches) → Stands base (J.seen journal) → last_number base < session_of_state state * 2 ^ 40) }
-        ensures later { IfOk result (λ state. J.faults journal ≤ faults_of_state J.faults state) }
+        ensures some { IfOk result (λ state. (base : Batches) × IsAt (device J.tells J.seen J.may_leave J.moment J.left_since) state (opened (J.moment journal) false base)) }
+        ensures session { IfOk result (λ state. IsTrue J.tells → (logs : List Held) × HoldsLogs 1 logs (J.seen journal) × (state_session state ≡ suc (greatest_session logs))) }
+        ensures fresh { IfOk result (λ state. IsTrue J.tells → (base : Batches) → Stands base (J.seen journal) → last_number base < state_session state * 2 ^ 40) }
+        ensures later { IfOk result (λ state. J.faults journal ≤ J.faults (state_journal state)) }
         ensures cause { IfErr result (λ e. OpenCause (Rose (J.faults journal) (J.faults e.1)) J.tells (J.seen journal) profile e.0) }
         ensures later_err { IfErr result (λ e. J.faults journal ≤ J.faults e.1) }
         ensures images { IfErr result (λ e. IsTrue J.tells → (base : Batches) → OpensOn true base (J.seen journal) (J.may_leave journal)

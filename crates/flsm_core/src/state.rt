@@ -84,12 +84,13 @@ impl<J: Journal> State<J> {
     ghost use Rattle.flsm_core.specs.Device.{device};
     ghost use Rattle.flsm_core.specs.Place.{Place, all_of};
     ghost use Rattle.flsm_core.specs.Standing.{IsAt, Leaves};
+    ghost use Rattle.flsm_core.specs.State.{state_journal};
 
     /// Gives the journal up. What waits is lost.
     pub fn close(self) -> J
         ensures images { IsTrue J.tells → (p : Place) → IsAt (device J.tells J.seen J.may_leave J.moment J.left_since) self p → IsTrue p.honest
             → (image : Image) → J.may_leave result image → Leaves p.settled (all_of p) image }
-        ensures journal { result ≡ self.journal }
+        ensures journal { result ≡ state_journal self }
     {
         let State {
             alloc: _,
@@ -106,9 +107,7 @@ impl<J: Journal> State<J> {
 
 impl<J: Journal> Store for State<J> {
     ghost use Rattle.flsm_core.specs.Device.{device};
-    ghost use Rattle.flsm_core.specs.Standing.{IsAt, IsSound};
-
-    ghost sound = { λ s. IsSound (device J.tells J.seen J.may_leave J.moment J.left_since) s };
+    ghost use Rattle.flsm_core.specs.Standing.{IsAt};
 
     ghost stands = { λ s p. IsAt (device J.tells J.seen J.may_leave J.moment J.left_since) s p };
 

@@ -17,9 +17,6 @@ pub trait Store {
     /// The places that the store stands at.
     ghost stands: { Self → Place → Type 0 };
 
-    /// What holds of an open store, and lets it be synced.
-    ghost sound: { Self → Type 0 };
-
     /// The session of this opening.
     ghost session: { Self → ℕ };
 
@@ -32,7 +29,6 @@ pub trait Store {
     /// bytes that wait would pass their limit, or `Memory`. A refusal changes nothing.
     fn put(&mut self, key: Key, value: Value) -> Result<Number, CommitFault>
         ensures stands { (p : Place) → stands self.old p → stands self.new (after_put (session self.old) p (put_op key value ∷ []) result) }
-        ensures sound { sound self.old → sound self.new }
         ensures answers { (p : Place) → stands self.old p → Puts (session self.old) p (put_op key value ∷ []) result }
         ensures session { session self.new ≡ session self.old }
         ensures faults { faults self.new ≡ faults self.old };
@@ -42,8 +38,7 @@ pub trait Store {
     /// `Stopped` comes exactly where the journal has failed before. `Journal` comes only where it failed in this call; then the
     /// batches that waited may be lost, and every later commit or sync is refused.
     fn sync(&mut self) -> Result<Number, SyncFault>
-        requires { sound self.old }
-        ensures sound { sound self.new }
+        requires { (p : Place) × stands self.old p }
         ensures stands { (p : Place) → stands self.old p → stands self.new (after_sync p result) }
         ensures answers { (p : Place) → stands self.old p → Syncs p result }
         ensures session { session self.new ≡ session self.old }

@@ -1,4 +1,5 @@
 //! A store over devices in memory.
+ghost use Rattle.flsm_core.specs.Place.{Place};
 
 use crate::{CommitFault, OpenFault, State, Store, SyncFault};
 use disk_model::{Devices, FailPlan, JournalFile, MemDevices, MemJournal, Plans};
@@ -6,7 +7,11 @@ use peb_base::{FileName, Key, LimitKind, Number, Profile, Value};
 use std::alloc::Global;
 use std::test::Fail;
 
-fn put(store: &mut State<MemJournal>, alloc: Global, key: &[u8], value: &[u8]) -> Result<Number, Fail> {
+/// A put on a store that stands somewhere, and then does so again.
+fn put<S: Store>(store: &mut S, alloc: Global, key: &[u8], value: &[u8]) -> Result<Number, Fail>
+    requires { (p : Place) × S.stands store.old p }
+    ensures { (p : Place) × S.stands store.new p }
+{
     Ok(store.put(Key::new(alloc, key)?, Value::new(alloc, value)?)?)
 }
 

@@ -1,8 +1,8 @@
-use Rattle.std.proofs.Common.{◌≡◌, ℕ, ◌+◌, List, IsTrue, arith, length, refl, sym, ap, ◌∙◌, Err, Some, Ok, subst}
+use Rattle.std.proofs.Common.{◌≡◌, ◌+◌, List, arith, length, sym, ap, ◌∙◌, Err, subst}
 use Rattle.peb_base.specs.Batches.{Batches}
 use Rattle.record_log.specs.declared.record.Record.{Record}
 use Rattle.record_log.specs.Records.{bodies_of}
-use Rattle.flsm_core.specs.Logs.{Held, BeginsLogs}
+use Rattle.flsm_core.specs.Logs.{Held}
 use Rattle.flsm_core.specs.Opening.{IsFound, CantGoOn, AddCause, OpenCause}
 use Rattle.disk_model.specs.Images.{Rose}
 use Rattle.flsm_core.proofs.Founds.{begins_more}

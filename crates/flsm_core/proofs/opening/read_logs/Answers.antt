@@ -1,10 +1,10 @@
-use Rattle.std.proofs.Common.{◌≡◌, ◌+◌, ◌≤◌, ℕ, List, [], ◌∷◌, ◌++◌, IsTrue, length, arith, refl, sym, ap, ◌∙◌, subst}
+use Rattle.std.proofs.Common.{◌≡◌, ◌+◌, ℕ, [], ◌∷◌, ◌++◌, length, arith, sym, subst}
 use Rattle.disk_model.specs.Images.{Image}
 use Rattle.disk_model.specs.declared.journal_file.JournalFile.TheVariants.{Log}
 use Rattle.record_log.specs.Log.{IsUnfinished}
 use Rattle.flsm_core.specs.declared.found.Found.{Found}
 use Rattle.flsm_core.specs.Device.{device}
-use Rattle.flsm_core.specs.Logs.{Held, BeginsLogs, HoldsLogs}
+use Rattle.flsm_core.specs.Logs.{BeginsLogs}
 use Rattle.flsm_core.specs.Opening.{IsFound, AreKept}
 use Rattle.flsm_core.proofs.Founds.{begins_end}
 use Rattle.flsm_core.proofs.Openings.{watched_none, watched_on, kept_on, kept_more}

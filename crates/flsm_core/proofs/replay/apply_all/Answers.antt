@@ -1,9 +1,8 @@
-use Rattle.std.proofs.Common.{rules, ◌≡◌, ◌∷◌, [], List, map, length, ap, sym, ◌∙◌, refl}
+use Rattle.std.proofs.Common.{rules, ◌≡◌, length, ap, sym, ◌∙◌}
 use Rattle.std.specs.Vec.Iter.{into_iter_items, into_iter_len}
 use Rattle.std.proofs.lemmas.List.{map-id}
 use Rattle.std.proofs.lemmas.Iterator.Adapters.{YieldsList-from_vec}
 use Rattle.std.proofs.lemmas.Iterator.Consumers.{YieldsList-end}
-use Rattle.peb_base.specs.declared.op.Op.{Op}
 use Rattle.peb_base.specs.Batches.{numbered}
 use Rattle.peb_base.specs.Map.{apply_change, apply_entries}
 use Rattle.flsm_core.proofs.Replays.{apply_push}

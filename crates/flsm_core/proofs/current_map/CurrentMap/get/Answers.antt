@@ -1,4 +1,4 @@
-use Rattle.std.proofs.Common.{◌≡◌, Some, sym, ap, ◌∙◌}
+use Rattle.std.proofs.Common.{Some, ap, ◌∙◌}
 use Rattle.peb_base.specs.Map.{lookup}
 use Rattle.flsm_core.proofs.PairLemmas.{lookup-pairs}
 use Rattle.flsm_core.proofs.current_map.CurrentMap.get.Goals as goal

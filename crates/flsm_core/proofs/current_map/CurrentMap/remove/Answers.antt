@@ -1,4 +1,4 @@
-use Rattle.std.proofs.Common.{◌≡◌, sym, ap, ◌∙◌}
+use Rattle.std.proofs.Common.{ap, ◌∙◌}
 use Rattle.peb_base.specs.Map.{remove_key}
 use Rattle.flsm_core.specs.Pairs.{pairs}
 use Rattle.flsm_core.proofs.PairLemmas.{pairs-remove}

@@ -1,4 +1,4 @@
-use Rattle.std.proofs.Common.{◌≡◌, refl, ap, ◌∙◌}
+use Rattle.std.proofs.Common.{refl, ap, ◌∙◌}
 use Rattle.flsm_core.specs.Pairs.{pairs}
 use Rattle.flsm_core.proofs.PairLemmas.{pairs-insert}
 use Rattle.flsm_core.proofs.current_map.CurrentMap.set.Goals as goal

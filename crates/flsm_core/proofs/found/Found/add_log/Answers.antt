@@ -1,5 +1,5 @@
 use Rattle.std.proofs.Common.{rules, ◌≡◌, refl, sym, ap, ◌∙◌}
-use Rattle.std.specs.Prelude.{max, ℕ}
+use Rattle.std.specs.Prelude.{max}
 use Rattle.record_log.specs.declared.header.Header.{Header}
 use Rattle.record_log.specs.Records.{bodies_of}
 use Rattle.flsm_core.proofs.Founds.{found_more, spells_as}

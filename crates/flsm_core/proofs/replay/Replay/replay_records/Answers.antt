@@ -1,4 +1,4 @@
-use Rattle.std.proofs.Common.{◌≡◌, ◌++◌, ◌∷◌, [], ℕ, take, sym, ap, ◌∙◌, subst, append_assoc, refl, inl, inr}
+use Rattle.std.proofs.Common.{◌++◌, ◌∷◌, [], sym, subst, append_assoc, refl, inl, inr}
 use Rattle.std.proofs.lemmas.List.{append-nil, take_all}
 use Rattle.peb_base.specs.Batches.{Batches}
 use Rattle.record_log.specs.Records.{bodies_of}

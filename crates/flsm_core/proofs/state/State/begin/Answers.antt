@@ -1,4 +1,4 @@
-use Rattle.std.proofs.Common.{◌≡◌, ◌+◌, ◌<◌, ◌≤◌, ℕ, suc, true, arith, length, refl, sym, ap, ◌∙◌, subst}
+use Rattle.std.proofs.Common.{◌≡◌, ◌+◌, suc, true, arith, length, refl, ap}
 use Rattle.record_log.specs.declared.header.Header.{Header}
 use Rattle.flsm_core.specs.Device.{device}
 use Rattle.flsm_core.proofs.At.{at_opened}

@@ -1,11 +1,11 @@
-use Rattle.std.proofs.Common.{◌≡◌, ◌+◌, ◌*◌, ◌^◌, ◌<◌, ◌≤◌, ℕ, suc, true, IsTrue, List, length, arith, refl, sym, ap, ◌∙◌, subst}
+use Rattle.std.proofs.Common.{◌≡◌, ◌+◌, ◌*◌, ◌^◌, ◌<◌, ℕ, true, false, arith, sym, ap, ◌∙◌, subst}
 use Rattle.peb_base.specs.Batches.{Batches, last_number}
 use Rattle.disk_model.specs.Images.{Image}
 use Rattle.flsm_core.specs.Device.{device}
-use Rattle.flsm_core.specs.Logs.{Held, Stands}
+use Rattle.flsm_core.specs.Logs.{Reads, Stands}
 use Rattle.flsm_core.specs.Opening.{AreKept}
 use Rattle.flsm_core.specs.Place.{opened}
-use Rattle.flsm_core.specs.Standing.{IsAt, session_of_state}
+use Rattle.flsm_core.specs.Standing.{IsAt}
 use Rattle.flsm_core.proofs.Openings.{Read, same_base, quiet_after, past_stands, stands_read, stands_agree, if_ok, if_err}
 use Rattle.flsm_core.proofs.state.State.open.Goals as goal
 
@@ -30,6 +30,22 @@ returns-in-Ok-clause-stands g c = if_ok c.begin.result _ _ (λ state at told hon
     (λ told. quiet_after fin one c.one_batch.ensures d c.args.journal c.read_logs.new.journal honest found.0 found.1 base read on)
     (λ told sure image left. subst (λ (b : Batches). Stands b image) (sym same)
     (past_stands d c.args.journal c.read_logs.new.journal honest found.0 found.1 base read sure on image left))))
+    c.begin.ensures.stands
+
+pub returns-in-Ok-clause-some : goal.returns-in-Ok-clause-some
+returns-in-Ok-clause-some g c = if_ok c.begin.result _ _ (λ state at.
+    let start : ℕ = g.J.Journal.moment c.args.journal in
+    let found = c.in-Ok.ensures.found in
+    let watched = c.read_logs.ensures.watched in (
+      found.1,
+      at start false found.0 found.1 watched.time.later found.2
+          (λ told. record {
+            reads = subst (λ (i : Image). Reads i found.0 found.1) (sym watched.seen) (record { holds = found.3 told; spelled = found.2.spelled; ordered = found.2.replay.ordered });
+            none_above = λ sure. absurd (cc);
+            only = λ sure. absurd (cc);
+          })
+          (λ told sure. absurd (cc)),
+    ))
     c.begin.ensures.stands
 
 pub returns-in-Ok-clause-fresh : goal.returns-in-Ok-clause-fresh

@@ -6,8 +6,6 @@ use Rattle.record_log.specs.State.{log_tail}
 use Rattle.flsm_core.specs.Device.{device}
 use Rattle.flsm_core.specs.Logs.{record_of, record_of-is}
 use Rattle.flsm_core.specs.Place.{put_op, next_number, all_of}
-use Rattle.record_log.specs.Ready.{ready_with}
-use Rattle.flsm_core.proofs.Spelled.{records-push}
 use Rattle.flsm_core.proofs.At.{at_put}
 use Rattle.flsm_core.proofs.state.StateStore.put.Goals as goal
 
@@ -36,16 +34,6 @@ returns-clause-stands g c = λ p is.
     })
     (c.in-Some.ensures.next ∙ ap (λ (n : ℕ). max n (c.args.self.now.session * 2 ^ 40) + 1) is.last)
     is
-
-pub returns-clause-sound : goal.returns-clause-sound
-returns-clause-sound g c = λ sound told fine. let able = sound told fine in record {
-  header = able.header;
-  groups = able.groups;
-  bodies = able.bodies ++ c.deref.result.now ∷ [];
-  ready = ready_with g.J.Journal.tells g.J.Journal.seen g.J.Journal.may_leave c.args.self.now.journal c.args.self.now.log c.add.new.self able.header able.groups
-      (c.add.ensures.file ∙ c.reserve.ensures.file) (c.add.ensures.place ∙ c.reserve.ensures.place) able.ready;
-  tail = c.in-Ok-add.ensures.ok ∙ ap (λ t. t ++ record_bytes c.deref.result.now) (c.reserve.ensures.tail ∙ able.tail) ∙ sym (records-push able.bodies c.deref.result.now);
-}
 
 pub returns-in-Err-Full-clause-answers : goal.returns-in-Err-Full-clause-answers
 returns-in-Err-Full-clause-answers g c = λ p is.

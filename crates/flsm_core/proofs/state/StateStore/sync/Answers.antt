@@ -1,5 +1,4 @@
-use Rattle.std.proofs.Common.{◌≡◌, [], false, IsTrue, refl, sym, ◌∙◌}
-use Rattle.record_log.specs.Groups.{with_group}
+use Rattle.std.proofs.Common.{◌≡◌, false, refl, sym, ◌∙◌}
 use Rattle.flsm_core.specs.Device.{device}
 use Rattle.flsm_core.proofs.At.{at_synced, at_halted, during_close}
 use Rattle.flsm_core.proofs.state.StateStore.sync.Goals as goal
@@ -29,13 +28,7 @@ returns-in-Err-clause-stands g c = λ p is.
     is
 
 pub close_group-requires : goal.close_group-requires
-close_group-requires g c = λ told. let able = c.requires told c.if-self.false in (able.header, able.groups, able.ready)
-
-pub returns-in-Ok-clause-sound : goal.returns-in-Ok-clause-sound
-returns-in-Ok-clause-sound g c = λ told fine. let able = c.requires told c.if-self.false in record {
-  header = able.header;
-  groups = with_group able.groups able.bodies;
-  bodies = [];
-  ready = c.in-Ok.ensures.closed able.header able.groups able.bodies able.ready able.tail;
-  tail = c.in-Ok.ensures.tail;
-}
+close_group-requires g c = λ told.
+    let is = c.requires.1 in
+    let rests = is.rests told (sym is.stopped ∙ c.if-self.false) in
+    (rests.current.header, rests.current.groups, rests.ready)
