@@ -1,0 +1,7 @@
+pub mod Growing
+pub mod Handing
+pub mod Playing
+pub mod Reading
+pub mod Running
+pub mod Serving
+pub mod Writing

@@ -1,2 +1,9 @@
+pub mod Causes
+pub mod Read
 pub mod Returning
+pub mod Shows
 pub mod Silent
+pub mod Tells
+pub mod Top
+pub mod Words
+pub mod Writes

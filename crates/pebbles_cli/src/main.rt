@@ -1,9 +1,15 @@
 //! The program `pebbles`: runs scripts over a store in a real directory.
 #![tactic(auto)]
 
+mod closing;
+mod ended;
 mod faults;
 mod file_at;
 mod journal_folder;
+mod laws;
+mod opening;
+mod read_fault;
+mod read_script;
 mod real_devices;
 mod real_journal;
 #[cfg(test)]
@@ -12,15 +18,24 @@ mod real_scripts;
 mod real_sink;
 mod real_sinks;
 mod returned;
-mod stand_in;
+mod run;
+mod serve;
+mod served;
+#[cfg(test)]
+mod tests;
+mod top;
 #[cfg(test)]
 mod watched;
+mod words;
+mod write;
+mod write_fault;
 
 use crate::real_devices::RealDevices;
 use crate::real_scripts::RealScripts;
 use crate::real_sinks::RealSinks;
-use crate::stand_in::{Cause, top_plain};
-use std::io::{ErrorKind, Write};
+use crate::top::top_plain;
+use script::Cause;
+use std::io::ErrorKind;
 use std::process::ExitCode;
 use std::{env, io};
 
@@ -29,33 +44,25 @@ fn command_words(rt: &HostRuntime) -> io::Result<Vec<String>> {
     Ok(env::args(rt)?.skip(1).collect(rt.alloc())?)
 }
 
-/// Runs the words over real devices, and gives the status and the cause that the run ends with.
-fn run(rt: &HostRuntime, words: &[String]) -> (u8, Cause) {
+/// Runs the words over real devices.
+fn run_on_host(rt: &HostRuntime) -> Cause {
+    let words = match command_words(rt) {
+        Ok(words) => words,
+        Err(error) if error.kind() == ErrorKind::OutOfMemory => return Cause::Memory,
+        // A word that isn't text stands in no list of command words.
+        Err(_) => return Cause::Usage,
+    };
+    let devices = RealDevices::new(*rt);
     let mut scripts = RealScripts::new(*rt);
     let mut sinks = RealSinks::new(*rt);
-    let devices = RealDevices::new(*rt);
-    let ended = top_plain(rt.alloc(), words, devices, &mut scripts, &mut sinks);
-    (ended.status, ended.cause)
-}
-
-/// Tells the cause on the standard error. Where that fails too, the status alone tells it.
-fn tell(rt: &HostRuntime, cause: &Cause) {
-    if let Ok(mut line) = cause.line(rt.alloc()) {
-        if line.push(b'\n').is_ok() {
-            let _ = rt.stderr().write_all(&line);
-        }
-    }
+    top_plain(rt.alloc(), &words, devices, &mut scripts, &mut sinks).cause
 }
 
 fn main(rt: HostRuntime) -> ExitCode {
-    let (status, cause) = match command_words(&rt) {
-        Ok(words) => run(&rt, &words),
-        Err(error) if error.kind() == ErrorKind::OutOfMemory => (7, Cause::Memory),
-        // A word that isn't text is no word of a command.
-        Err(_) => (2, Cause::Usage),
-    };
-    if status != 0 {
-        tell(&rt, &cause);
+    let cause = run_on_host(&rt);
+    if cause != Cause::Done {
+        // Where the standard error takes nothing, the status alone tells the cause.
+        let _ = rt.eprintln(cause);
     }
-    ExitCode::from(status)
+    ExitCode::from(cause.status())
 }

@@ -1,0 +1,75 @@
+ghost use Rattle.std.specs.Prelude.{◌≡◌, ◌≢◌, ◌⊎◌, ◌≤◌, ℕ, suc, ◌*◌, ◌^◌, ◌<◌, Bool, true, false, IsTrue, IfOk, IfErr};
+ghost use Rattle.disk_model.specs.Images.{Image, Rose};
+ghost use Rattle.peb_base.specs.Batches.{Batches, last_number};
+ghost use Rattle.flsm_core.specs.Device.{device};
+ghost use Rattle.flsm_core.specs.Place.{Place, opened, all_of};
+ghost use Rattle.flsm_core.specs.Logs.{Stands};
+ghost use Rattle.flsm_core.specs.Opening.{OpensOn};
+ghost use Rattle.flsm_core.specs.Standing.{IsAt, Leaves};
+ghost use Rattle.flsm_core.specs.State.{state_session, state_journal};
+ghost use Rattle.script.specs.declared.cause.Cause.TheVariants as causes;
+ghost use Rattle.pebbles_cli.specs.Causes.{RunCause, opening_cause};
+ghost use Rattle.pebbles_cli.specs.Top.{IsNext};
+
+use disk_model::Devices;
+use flsm_core::{OpenFault, State};
+use peb_base::Profile;
+use script::Cause;
+use std::alloc::Global;
+
+fn opening_cause(fault: OpenFault) -> Cause
+    ensures { result ≡ opening_cause fault }
+{
+    match fault {
+        OpenFault::Journal => Cause::Journal,
+        OpenFault::Damaged(file, at) => Cause::Damaged(file, at),
+        OpenFault::Profile(have, asked) => Cause::Profile(have, asked),
+        OpenFault::Limit(kind, n) => Cause::Limit(kind, n),
+        OpenFault::Memory => Cause::Memory,
+    }
+}
+
+/// Opens the store of a directory in the profile `small`. Where that fails the devices have their journal back, and each image stands as before.
+pub fn open_store<D: Devices>(
+    alloc: Global,
+    dir: &str,
+    devices: &mut D,
+) -> Result<State<D::J>, Cause>
+    ensures stands { IfOk result (λ state. IsTrue D.J.tells → (honest : Bool) (base : Batches) → OpensOn honest base (D.seen devices.old) (D.may_leave devices.old)
+        → IsAt (device D.J.tells D.J.seen D.J.may_leave D.J.moment D.J.left_since) state (opened (D.moment devices.old) honest base)) }
+    ensures some { IfOk result (λ state. (base : Batches) × IsAt (device D.J.tells D.J.seen D.J.may_leave D.J.moment D.J.left_since) state (opened (D.moment devices.old) false base)) }
+    ensures next { IfOk result (λ state. IsTrue D.J.tells → (base : Batches) → Stands base (D.seen devices.old) → IsNext base (D.seen devices.old) (state_session state)) }
+    ensures count { IfOk result (λ state. D.journal_faults devices.old ≤ D.J.faults (state_journal state)) }
+    ensures left { IfErr result (λ _. IsTrue D.J.tells → (base : Batches) → OpensOn true base (D.seen devices.old) (D.may_leave devices.old)
+        → (image : Image) → D.may_leave devices.new image → Stands base image) }
+    ensures count_err { IfErr result (λ _. D.journal_faults devices.old ≤ D.journal_faults devices.new) }
+    ensures later { D.faults devices.old ≤ D.faults devices.new }
+    ensures fault { IfErr result (λ cause. cause ≢ causes.Done) }
+    ensures cause { IfErr result (λ cause. RunCause (Rose (D.faults devices.old) (D.faults devices.new) ⊎ Rose (D.journal_faults devices.old) (D.journal_faults devices.new))
+        ⊥ ⊥ D.J.tells (D.seen devices.old) cause) }
+{
+    let Ok(()) = devices.set(dir) else {
+        return Err(Cause::Journal);
+    };
+    let Ok(journal) = devices.journal() else {
+        return Err(Cause::Journal);
+    };
+    match State::open(alloc, journal, Profile::Small) {
+        Ok(state) => Ok(state),
+        Err(refused) => {
+            let (fault, journal) = refused;
+            devices.back(journal);
+            Err(opening_cause(fault))
+        }
+    }
+}
+
+/// Hands the journal of a store back to the devices.
+pub fn close_store<D: Devices>(devices: &mut D, state: State<D::J>)
+    ensures left { IsTrue D.J.tells → (p : Place) → IsAt (device D.J.tells D.J.seen D.J.may_leave D.J.moment D.J.left_since) state p → IsTrue p.honest
+        → (image : Image) → D.may_leave devices.new image → Leaves p.settled (all_of p) image }
+    ensures count { D.journal_faults devices.new ≡ D.J.faults (state_journal state) }
+    ensures faults { D.faults devices.new ≡ D.faults devices.old }
+{
+    devices.back(state.close());
+}

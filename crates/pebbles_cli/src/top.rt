@@ -1,0 +1,85 @@
+ghost use Rattle.std.specs.Prelude.{◌≡◌, ◌⊎◌, ◌↔◌, ℕ, Bool, true, false, IsTrue, List, map, None, IfSome, string_bytes};
+ghost use Rattle.peb_base.specs.Batches.{Batches};
+ghost use Rattle.disk_model.specs.Images.{Rose};
+ghost use Rattle.flsm_core.specs.Opening.{OpensOn};
+ghost use Rattle.script.specs.Cause.{status_of};
+ghost use Rattle.script.specs.declared.cause.Cause.TheVariants as causes;
+ghost use Rattle.pebbles_cli.specs.Words.{run_words};
+ghost use Rattle.pebbles_cli.specs.Causes.{PlayCause, IsBeforeOpening};
+ghost use Rattle.pebbles_cli.specs.Top.{Plays};
+
+use crate::ended::Ended;
+use crate::read_fault::ReadFault;
+use crate::read_script::read_script;
+use crate::run::run_commands;
+use crate::words::run_words;
+use disk_model::{Devices, Scripts, Sinks};
+use peb_base::LimitKind;
+use script::{Cause, ParseFault, parse};
+use std::alloc::Global;
+
+/// Reads a script, and runs its commands on the store of a directory.
+fn play<D: Devices, S: Scripts, K: Sinks>(
+    alloc: Global,
+    dir: &str,
+    file: &str,
+    devices: &mut D,
+    scripts: &mut S,
+    sinks: &mut K,
+) -> Cause
+    ensures untouched { IsBeforeOpening result → devices.new ≡ devices.old }
+    ensures ran { IsTrue D.J.tells → (honest : Bool) (base : Batches) → OpensOn honest base (D.seen devices.old) (D.may_leave devices.old)
+        → Plays true D.J.tells honest base (D.seen devices.old) (D.moment devices.old) (S.text scripts.old file.now) (K.took sinks.old 1) (K.took sinks.new 1)
+        (K.reported sinks.old) (K.reported sinks.new) (D.may_leave devices.new) result }
+    ensures somehow { (base : Batches) × Plays false D.J.tells false base (D.seen devices.old) (D.moment devices.old) (S.text scripts.old file.now)
+        (K.took sinks.old 1) (K.took sinks.new 1) (K.reported sinks.old) (K.reported sinks.new) (D.may_leave devices.new) result }
+    ensures cause { PlayCause (Rose (S.faults scripts.old) (S.faults scripts.new))
+        (Rose (D.faults devices.old) (D.faults devices.new) ⊎ Rose (D.journal_faults devices.old) (D.journal_faults devices.new))
+        (Rose (K.faults sinks.old) (K.faults sinks.new)) (Rose 0 (K.client_faults sinks.new 1)) D.J.tells (D.seen devices.old) (S.text scripts.old file.now) result }
+{
+    let text = match read_script(alloc, scripts, file) {
+        Ok(text) => text,
+        Err(ReadFault::Source) => return Cause::Source(1),
+        Err(ReadFault::TooLong) => return Cause::Limit(LimitKind::Script, 16_777_216),
+        Err(ReadFault::Memory) => return Cause::Memory,
+    };
+    let commands = match parse(alloc, &text) {
+        Ok(commands) => commands,
+        Err(ParseFault::Bad { line, why }) => return Cause::Script(1, line, why),
+        Err(ParseFault::Memory) => return Cause::Memory,
+    };
+    run_commands(alloc, dir, file, devices, sinks, commands)
+}
+
+/// Does all that the program does, on words that need no thread.
+///
+/// The words are `run --profile small --workers 0 DIR FILE`; all others are `Usage`. The script FILE is read and parsed, the store of the directory DIR
+/// is opened on the devices, the commands run one after another, each reply is handed to the client's sink 1 before the next command runs, and the report
+/// goes to the report's sink. The cause is the first fault: of the words, the script, the opening, a reply, the client's sink, the last sync, the report.
+/// The devices come back with all that was made of them: where no command ran they stand for what they stood for, and else for what was settled and some of what was not.
+pub fn top_plain<D: Devices, S: Scripts, K: Sinks>(
+    alloc: Global,
+    words: &[String],
+    devices: D,
+    scripts: &mut S,
+    sinks: &mut K,
+) -> Ended<D>
+    ensures status { result.status ≡ status_of result.cause }
+    ensures usage { (result.cause ≡ causes.Usage) ↔ (run_words (map string_bytes words.now) ≡ None) }
+    ensures untouched { IsBeforeOpening result.cause → result.devices ≡ devices }
+    ensures ran { IfSome (run_words (map string_bytes words.now)) (λ names. IsTrue D.J.tells → (honest : Bool) (base : Batches) → OpensOn honest base (D.seen devices) (D.may_leave devices)
+        → Plays true D.J.tells honest base (D.seen devices) (D.moment devices) (S.text scripts.old names.1) (K.took sinks.old 1) (K.took sinks.new 1)
+        (K.reported sinks.old) (K.reported sinks.new) (D.may_leave result.devices) result.cause) }
+    ensures somehow { IfSome (run_words (map string_bytes words.now)) (λ names. (base : Batches) × Plays false D.J.tells false base (D.seen devices) (D.moment devices) (S.text scripts.old names.1)
+        (K.took sinks.old 1) (K.took sinks.new 1) (K.reported sinks.old) (K.reported sinks.new) (D.may_leave result.devices) result.cause) }
+    ensures cause { IfSome (run_words (map string_bytes words.now)) (λ names. PlayCause (Rose (S.faults scripts.old) (S.faults scripts.new))
+        (Rose (D.faults devices) (D.faults result.devices) ⊎ Rose (D.journal_faults devices) (D.journal_faults result.devices))
+        (Rose (K.faults sinks.old) (K.faults sinks.new)) (Rose 0 (K.client_faults sinks.new 1)) D.J.tells (D.seen devices) (S.text scripts.old names.1) result.cause) }
+{
+    let Some(names) = run_words(words) else {
+        return Ended::new(Cause::Usage, devices);
+    };
+    let mut devices = devices;
+    let cause = play(alloc, names.dir, names.file, &mut devices, scripts, sinks);
+    Ended::new(cause, devices)
+}
