@@ -54,7 +54,10 @@ fn run_with(
     source: FailPlan,
     plans: SinkPlans,
 ) -> Result<Told, Fail> {
-    let words = words_of(alloc, &["run", "--profile", "small", "--workers", "0", "d", "a.txt"])?;
+    let words = words_of(
+        alloc,
+        &["run", "--profile", "small", "--workers", "0", "d", "a.txt"],
+    )?;
     let mut scripts = MemScripts::new(alloc, source).with("a.txt", script)?;
     let mut sinks = MemSinks::new(alloc, plans);
     let ended = top_plain(alloc, &words, devices, &mut scripts, &mut sinks);
@@ -62,7 +65,13 @@ fn run_with(
 }
 
 fn run(alloc: Global, devices: MemDevices, script: &[u8]) -> Result<Told, Fail> {
-    run_with(alloc, devices, script, FailPlan::empty(alloc), SinkPlans::empty(alloc))
+    run_with(
+        alloc,
+        devices,
+        script,
+        FailPlan::empty(alloc),
+        SinkPlans::empty(alloc),
+    )
 }
 
 fn empty(alloc: Global) -> Result<MemDevices, Fail> {
@@ -108,7 +117,8 @@ fn an_empty_script_begins_a_session(rt: HostRuntime) -> Result<(), Fail> {
 fn the_log_of_a_put_is_these_53_bytes(rt: HostRuntime) -> Result<(), Fail> {
     let alloc = rt.alloc();
     let told = run(alloc, empty(alloc)?, b"put! a 1\n")?;
-    let log = b"\x01FLSML\x01\x01\0\0\0\0\0\0\0\x01\0\0\0\0\0\0\0\x01\x01\0\0\0\x17\0\0\0\x13\0\0\x01\0\0\0\0\x01\0\x01\x01\0\x01a\0\0\0\x011\0";
+    let log =
+        b"\x01FLSML\x01\x01\0\0\0\0\0\0\0\x01\0\0\0\0\0\0\0\x01\x01\0\0\0\x17\0\0\0\x13\0\0\x01\0\0\0\0\x01\0\x01\x01\0\x01a\0\0\0\x011\0";
     assert_eq!(rt; log.len(), 53);
     assert_eq!(rt;
         told.ended.devices.bytes_of(JournalFile::Log(1)),
@@ -166,14 +176,20 @@ fn a_journal_that_fails_once_leaves_the_batch_or_nothing(rt: HostRuntime) -> Res
             let plans = Plans {
                 journal: failing(alloc, call)?,
             };
-            let told = run(alloc, MemDevices::new(alloc, plans)?, b"put! a 1\nput! a 2\nget a\n")?;
+            let told = run(
+                alloc,
+                MemDevices::new(alloc, plans)?,
+                b"put! a 1\nput! a 2\nget a\n",
+            )?;
             if told.ended.status == 0 {
                 assert!(rt; refused && stopped && unsynced);
                 return Ok(());
             }
             assert_eq!(rt; told.ended.cause, Cause::Journal);
             let opened = !told.replies().is_empty();
-            if told.replies() == b"1.1 synced\n1.2 unsynced fault journal\n1.2 value 2\n".as_slice() {
+            if told.replies()
+                == b"1.1 synced\n1.2 unsynced fault journal\n1.2 value 2\n".as_slice()
+            {
                 unsynced = true;
             } else if opened {
                 stopped = true;
@@ -251,11 +267,39 @@ fn sources_and_sinks_that_fail(rt: HostRuntime) -> Result<(), Fail> {
         assert_eq!(rt; told.ended.devices.bytes_of(JournalFile::Log(1)), None);
     }
     let sinks = [
-        (failing(alloc, 1)?, None, None, 1, b"".as_slice(), b"".as_slice()),
-        (failing(alloc, 2)?, None, None, 0, b"1.1 synced\n1.1 value 1\n", b""),
+        (
+            failing(alloc, 1)?,
+            None,
+            None,
+            1,
+            b"".as_slice(),
+            b"".as_slice(),
+        ),
+        (
+            failing(alloc, 2)?,
+            None,
+            None,
+            0,
+            b"1.1 synced\n1.1 value 1\n",
+            b"",
+        ),
         (FailPlan::empty(alloc), Some(5), None, 1, b"1.1 s", REPORT),
-        (FailPlan::empty(alloc), Some(15), None, 1, b"1.1 synced\n1.1 ", REPORT),
-        (FailPlan::empty(alloc), None, Some(3), 0, b"1.1 synced\n1.1 value 1\n", b"las"),
+        (
+            FailPlan::empty(alloc),
+            Some(15),
+            None,
+            1,
+            b"1.1 synced\n1.1 ",
+            REPORT,
+        ),
+        (
+            FailPlan::empty(alloc),
+            None,
+            Some(3),
+            0,
+            b"1.1 synced\n1.1 value 1\n",
+            b"las",
+        ),
     ];
     for (calls, room, report, index, replies, text) in sinks {
         let mut rooms = Vec::new(alloc);
