@@ -1,0 +1,4 @@
+mod Copies
+mod GuardLemmas
+mod Splits
+mod TableLemmas
