@@ -1,9 +1,13 @@
 -- The definitions on worked examples.
 use Rattle.std.proofs.Common.{◌≡◌, ℕ, true, false, [], ◌∷◌, Some, None, refl}
 use Rattle.peb_base.specs.Numbers.{number_of, session_of, count_of}
-use Rattle.peb_base.specs.Entries.{in_order}
+use Rattle.peb_base.specs.Entries.{in_order, first_from}
 use Rattle.peb_base.specs.Batches.{Batches, last_number, are_in_order, is_boundary, batches_to}
 use Rattle.peb_base.specs.Map.{map_at, value_at, rows, reversed_rows, Map}
+use Rattle.peb_base.specs.Profiles.{Column, column}
+use Rattle.peb_base.specs.Choice.{fnv_start, fnv1a, bits, level_of}
+use Rattle.peb_base.specs.Tables.{table_bytes}
+use Rattle.peb_base.specs.declared.profile.Profile.TheVariants.{Small}
 use Rattle.peb_base.specs.declared.change.Change.{Change}
 use Rattle.peb_base.specs.declared.change.Change.TheVariants.{Put, Delete}
 use Rattle.peb_base.specs.declared.op.Op.{Op}
@@ -74,3 +78,55 @@ rows_are = refl
 -- from b on, two from the greatest key downwards
 reversed_are : reversed_rows abc (98 ∷ []) [] 2 ≡ (99 ∷ [], 51 ∷ []) ∷ (98 ∷ [], 50 ∷ []) ∷ []
 reversed_are = refl
+
+abbrev small : Column
+small = column Small
+
+-- FNV-1a of the one byte a
+fnv1a_of_a : fnv1a fnv_start (97 ∷ []) ≡ 0xAF63DC4C8601EC8C
+fnv1a_of_a = refl
+
+abbrev put_at : ℕ → ℕ → Entry
+put_at k n = entry k n (Put (49 ∷ []))
+
+-- o, g and c are guards of levels 1, 2 and 3, a of none
+level_of_o : level_of small (111 ∷ []) ≡ Some 1
+unfolding bits lib.Count.count_trailing_zeros
+level_of_o = refl
+
+level_of_g : level_of small (103 ∷ []) ≡ Some 2
+unfolding bits lib.Count.count_trailing_zeros
+level_of_g = refl
+
+level_of_c : level_of small (99 ∷ []) ≡ Some 3
+unfolding bits lib.Count.count_trailing_zeros
+level_of_c = refl
+
+level_of_a : level_of small (97 ∷ []) ≡ None
+unfolding bits lib.Count.count_trailing_zeros
+level_of_a = refl
+
+length_of_one : table_bytes small (put_at 97 1 ∷ []) ≡ 111
+unfolding table_bytes
+length_of_one = refl
+
+length_of_two : table_bytes small (put_at 97 1 ∷ put_at 98 2 ∷ []) ≡ 130
+unfolding table_bytes
+length_of_two = refl
+
+length_of_three : table_bytes small (put_at 97 1 ∷ put_at 98 2 ∷ put_at 99 3 ∷ []) ≡ 149
+unfolding table_bytes
+length_of_three = refl
+
+-- two entries of one key
+length_of_a_key_twice : table_bytes small (put_at 97 2 ∷ put_at 97 1 ∷ []) ≡ 129
+unfolding table_bytes
+length_of_a_key_twice = refl
+
+length_of_four : table_bytes small (put_at 97 2 ∷ put_at 97 1 ∷ put_at 98 3 ∷ put_at 99 4 ∷ []) ≡ 167
+unfolding table_bytes
+length_of_four = refl
+
+-- a seek at a key goes to its newest entry, or to the first one behind
+first_of_b : first_from (98 ∷ []) 3 (put_at 97 2 ∷ put_at 98 4 ∷ put_at 98 3 ∷ put_at 99 1 ∷ []) ≡ 2
+first_of_b = refl

@@ -1,9 +1,11 @@
-//! Lengths at their limits, and printed names.
+//! Lengths at their limits, printed names, hashes and levels of keys, lent entries and shared tables.
 
 use crate::{
-    Batch, BatchFault, Change, FileName, HashKind, Key, KeyFault, LimitKind, List, Memory, Number,
-    Op, Options, Profile, Value, ValueFault,
+    Batch, BatchFault, Change, ChangeRef, EntryRef, FileName, HasRow, HashKind, Key, KeyBuf,
+    KeyFault, LimitKind, List, Memory, Number, Op, Options, Profile, TableLike, TableRow, Value,
+    ValueFault, bits, level_of, mixed,
 };
+use std::sync::Arc;
 use std::test::Fail;
 
 #[test]
@@ -108,5 +110,98 @@ fn the_two_columns_of_options(rt: HostRuntime) -> Result<(), Fail> {
     assert_eq!(rt; (small.guard_tables, small.zero_tables), (2, 2));
     assert_eq!(rt; (small.mem_limit, small.block_bytes), (1024, 256));
     assert_eq!(rt; small.hash, HashKind::LastByte);
+    Ok(())
+}
+
+// The hashes were computed from the definition of FNV-1a and SplitMix64's finalizer by another program.
+#[test]
+fn hashes_of_keys(rt: HostRuntime) -> Result<(), Fail> {
+    assert_eq!(rt; mixed(b"a"), 0x02c0_bdbf_4814_20f8);
+    assert_eq!(rt; mixed(b"k4774"), 0xce0a_13c9_a708_beab);
+    assert_eq!(rt; bits(HashKind::Mixed, b"k3617"), 14);
+    let counts = [(b"o", 4), (b"g", 3), (b"c", 2), (b"a", 1), (b"b", 0)];
+    for (key, count) in counts {
+        assert_eq!(rt; bits(HashKind::LastByte, key), count);
+    }
+    Ok(())
+}
+
+#[test]
+fn levels_of_keys(rt: HostRuntime) -> Result<(), Fail> {
+    let small = Options::of(Profile::Small);
+    let levels = [
+        (b"o", Some(1)),
+        (b"g", Some(2)),
+        (b"c", Some(3)),
+        (b"a", None),
+        (b"b", None),
+    ];
+    for (key, level) in levels {
+        assert_eq!(rt; level_of(&small, key), level);
+    }
+    assert_eq!(rt; level_of(&Options::of(Profile::Normal), b"k3617"), Some(2));
+    Ok(())
+}
+
+#[test]
+fn a_key_behind_the_beginning_of_another(rt: HostRuntime) -> Result<(), Fail> {
+    let mut key = KeyBuf::new();
+    assert_eq!(rt; key.bytes(), b"".as_slice());
+    key.put(0, b"apple");
+    assert_eq!(rt; key.bytes(), b"apple".as_slice());
+    assert!(rt; key.bytes().len() == 5);
+    key.put(3, b"ly");
+    assert_eq!(rt; key.bytes(), b"apply".as_slice());
+    Ok(())
+}
+
+#[test]
+fn a_lent_entry_tells_its_number(rt: HostRuntime) -> Result<(), Fail> {
+    let entry = EntryRef::new(b"a", Number::new(1, 2), ChangeRef::Put(b"1"));
+    assert_eq!(rt; entry.number(), Number::new(1, 2));
+    assert_eq!(rt; entry.key, b"a".as_slice());
+    assert!(rt; matches!(entry.change, ChangeRef::Put(value) if value.len() == 1));
+    Ok(())
+}
+
+/// A table that is its row alone.
+#[derive(Drop)]
+struct Bare {
+    row: TableRow,
+}
+
+impl HasRow for Bare {
+    ghost use Rattle.std.specs.Prelude.{◌≡◌};
+
+    ghost the_row = { λ table. table.row };
+
+    ghost holds = { λ table es. ⊥ };
+
+    fn row(&self) -> &TableRow {
+        &self.row
+    }
+
+    ghost agrees = { λ table es h. absurd h };
+}
+
+#[test]
+fn a_shared_table_has_its_row(rt: HostRuntime) -> Result<(), Fail> {
+    let alloc = rt.alloc();
+    let row = TableRow {
+        number: 1_099_511_627_777,
+        level: 0,
+        tier: 0,
+        smallest: Key::new(alloc, b"a")?,
+        largest: Key::new(alloc, b"p")?,
+        entries: 2,
+        raw: 4,
+        first: Number::new(1, 1),
+        last: Number::new(1, 2),
+        bytes: 130,
+    };
+    let table = Arc::new(alloc, Bare { row })?;
+    let shared = table.share()?;
+    assert_eq!(rt; shared.row().largest.bytes(), b"p".as_slice());
+    assert_eq!(rt; shared.row().number, 1_099_511_627_777);
     Ok(())
 }
