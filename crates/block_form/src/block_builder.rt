@@ -65,6 +65,13 @@ impl BlockBuilder {
         })
     }
 
+    /// Whether the block has no entry.
+    pub fn is_empty(&self) -> bool
+        ensures { IsTrue result ↔ (length self.now.entries ≡ 0) }
+    {
+        self.count == 0
+    }
+
     /// Whether the block has at least the length, in bytes, at which the profile closes a block.
     pub fn is_full(&self) -> bool
         ensures { IsTrue result ↔ (self.now.full ≤ length (block_bytes self.now.entries)) }

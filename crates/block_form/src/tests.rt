@@ -13,8 +13,10 @@ const BLOCK: [u8; 28] = [
 fn a_block_of_one_put_has_these_bytes(rt: HostRuntime) -> Result<(), Fail> {
     let mut builder = BlockBuilder::new(rt.alloc(), &Options::of(Profile::Small))?;
     let entry = EntryRef::new(b"a", Number::new(1, 1), ChangeRef::Put(b"1"));
+    assert!(rt; builder.is_empty());
     assert!(rt; !builder.is_full());
     builder.push(entry);
+    assert!(rt; !builder.is_empty());
     assert_eq!(rt; builder.finish(), BLOCK.as_slice());
     assert!(rt; !builder.is_full());
     builder.push(entry);
