@@ -1,0 +1,5 @@
+pub mod Building
+pub mod Form
+pub mod Parts
+pub mod Rows
+pub mod Walks

@@ -1,0 +1,80 @@
+//! Blocks that were read.
+
+ghost use Rattle.std.specs.Prelude.{◌≡◌, ◌<◌, ◌≤◌, List, Some, length, slice_get, IfOk, IsErr};
+ghost use Rattle.peb_base.specs.declared.entry.Entry.{Entry};
+ghost use Rattle.peb_base.specs.EntryRefs.{entry_of};
+ghost use Rattle.block_form.specs.Form.{IsBlock};
+
+use crate::block_fault::BlockFault;
+use crate::parts::parts_of_block;
+use crate::reading::count_of;
+use crate::scan::{entry_in, place_of};
+use peb_base::{EntryRef, KeyBuf, Number};
+use std::marker::Model;
+
+/// A block that was read; contracts see the list of its entries.
+#[derive(Drop)]
+pub struct Block<'a> {
+    entries: &'a [u8],
+    count: usize,
+}
+
+impl<'a> Model for Block<'a> {
+    ghost use Rattle.std.specs.Prelude.{List, []};
+    ghost use Rattle.peb_base.specs.declared.entry.Entry.{Entry};
+    ghost use Rattle.block_form.specs.Walks.{entries_from, HoldsEntries};
+
+    ghost Value = { List Entry };
+
+    ghost view = { λ block. entries_from block.count [] block.entries.now };
+
+    ghost invariant = { λ block. HoldsEntries block.entries.now block.count (entries_from block.count [] block.entries.now) };
+}
+
+impl<'a> Block<'a> {
+    /// Reads a block, which keeps the bytes lent and takes no memory.
+    ///
+    /// `Form` comes exactly where no list of entries has these bytes as its spelling.
+    pub fn read(bytes: &'a [u8]) -> Result<Block<'a>, BlockFault>
+        ensures block { IfOk result (λ block. IsBlock block bytes.now) }
+        ensures form { IsErr result → (es : List Entry) → IsBlock es bytes.now → ⊥ }
+    {
+        let Some(parts) = parts_of_block(bytes) else {
+            return Err(BlockFault::Form);
+        };
+        let (entries, places) = parts;
+        let Some(count) = count_of(entries, places) else {
+            return Err(BlockFault::Form);
+        };
+        if count == 0 {
+            return Err(BlockFault::Form);
+        }
+        Ok(Block { entries, count })
+    }
+}
+
+impl Block<'_> {
+    ghost use Rattle.peb_base.specs.Entries.{first_from};
+
+    /// The number of entries.
+    pub fn len(&self) -> usize
+        ensures { result ≡ length self.now }
+    {
+        self.count
+    }
+
+    /// The place of the first entry at or after this key and number, in entry order, or the number of entries.
+    pub fn find(&self, key: &[u8], number: Number) -> usize
+        ensures { result ≡ first_from key.now number self.now }
+    {
+        place_of(self.entries, self.count, key, number.packed())
+    }
+
+    /// The entry at a place below the number of entries, with its value lent and its key put together in `key_out`.
+    pub fn entry_at<'k>(&'k self, place: usize, key_out: &'k mut KeyBuf) -> EntryRef<'k>
+        requires { place < length self.now }
+        ensures { slice_get self.now place ≡ Some (entry_of result) }
+    {
+        entry_in(self.entries, self.count, place, key_out)
+    }
+}
