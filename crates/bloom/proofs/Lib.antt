@@ -1,0 +1,4 @@
+pub mod BitBytes
+pub mod Examples
+pub mod Held
+pub mod Reach
