@@ -1,6 +1,7 @@
 -- What the laws of filters say.
 use Rattle.std.specs.Prelude.{◌≡◌, ℕ, ◌*◌, ◌<◌, Bool, true, List, [], ◌∷◌, ◌++◌, length, Contains}
 use Rattle.peb_base.specs.Keys.{AreBytes}
+use Rattle.peb_base.specs.Tables.{filter_bytes}
 use Rattle.bloom.specs.Bits.{bit, bytes_of}
 use Rattle.bloom.specs.Filter.{may_hold, with_hash, filter_of}
 
@@ -23,6 +24,10 @@ HeldStays = (bytes : List ℕ) (hash more : ℕ) → 0 < length bytes → may_ho
 -- adding one more hash gives the filter of one more hash
 abbrev pub FilterGrows : Type 0
 FilterGrows = (count : ℕ) (hashes : List ℕ) (hash : ℕ) → with_hash (filter_of count hashes) hash ≡ filter_of count (hashes ++ hash ∷ [])
+
+-- a filter has the length for its count of entries
+abbrev pub FilterIsLong : Type 0
+FilterIsLong = (count : ℕ) (hashes : List ℕ) → length (filter_of count hashes) ≡ filter_bytes count
 
 -- every hash of a filter may be held
 abbrev pub AllAreHeld : Type 0

@@ -1,6 +1,6 @@
 //! Laws of filters. Each function runs nothing; its contract is the law.
 
-ghost use Rattle.bloom.specs.Laws.{AddedIsHeld, AllAreHeld, BitsAreRead, BitsDecide, FilterGrows, HeldStays};
+ghost use Rattle.bloom.specs.Laws.{AddedIsHeld, AllAreHeld, BitsAreRead, BitsDecide, FilterGrows, FilterIsLong, HeldStays};
 
 /// A hash that is added may be held, and stays so.
 pub fn law_added()
@@ -12,6 +12,7 @@ pub fn law_added()
 pub fn law_filter()
     ensures grows { FilterGrows }
     ensures all { AllAreHeld }
+    ensures long { FilterIsLong }
 {}
 
 /// Bytes are decided by their bits.

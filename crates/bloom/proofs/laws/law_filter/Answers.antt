@@ -1,3 +1,4 @@
+use Rattle.bloom.proofs.BitBytes.{length-bytes}
 use Rattle.bloom.proofs.Held.{filter-grows, all-held}
 use Rattle.bloom.proofs.laws.law_filter.Goals as goal
 
@@ -6,3 +7,6 @@ returns-clause-grows c = filter-grows
 
 pub returns-clause-all : goal.returns-clause-all
 returns-clause-all c = all-held
+
+pub returns-clause-long : goal.returns-clause-long
+returns-clause-long c = λ count hashes. length-bytes _ _
