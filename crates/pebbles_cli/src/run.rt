@@ -1,4 +1,4 @@
-ghost use Rattle.std.specs.Prelude.{◌≡◌, ◌⊎◌, ◌≤◌, ℕ, Bool, true, false, IsTrue, Option};
+ghost use Rattle.std.specs.Prelude.{◌≡◌, ◌⊎◌, ◌≤◌, ◌++◌, ℕ, Bool, true, false, IsTrue, IfOk, Option, codes, string_bytes};
 ghost use Rattle.disk_model.specs.Images.{Image, Rose};
 ghost use Rattle.disk_model.specs.Bytes.{IsFresh};
 ghost use Rattle.peb_base.specs.Batches.{Batches};
@@ -20,7 +20,9 @@ use script::{Cause, Command, ReplyBuf};
 use std::alloc::{AllocError, Global};
 
 /// The name of the file of a client's replies.
-fn reply_name(alloc: Global, file: &str) -> Result<String, AllocError> {
+fn reply_name(alloc: Global, file: &str) -> Result<String, AllocError>
+    ensures { IfOk result (λ name. string_bytes name ≡ file.now ++ codes ".out") }
+{
     format!(in alloc; "{file}.out")
 }
 
