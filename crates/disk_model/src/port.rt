@@ -1,0 +1,85 @@
+ghost use Rattle.std.specs.Prelude.{◌≡◌, ◌≤◌, ◌+◌, ℕ, IsTrue, IsOk, IfOk, OnOk, IfSome, length, take, drop, option_map};
+ghost use Rattle.std.specs.List.Sorted.{IsStrictlyIncreasing};
+ghost use Rattle.disk_model.specs.Images.{Rose, HasCause};
+ghost use Rattle.disk_model.specs.Tables.{TableFiles, Lists, capped};
+
+use crate::{Failed, ListFault, TableHandle};
+use peb_base::Memory;
+
+/// The device that reads sealed tables.
+///
+/// It finds those that were sealed when it was made. A port counts its faults and its reads, and is joined to
+/// another or handed back to its devices, so that the counts are kept.
+pub trait Port {
+    type File: TableHandle + Send + Sync + Drop;
+
+    /// The table files that were there when the port was made. No call changes them.
+    ghost table_files: { Self → TableFiles };
+
+    /// How often a call has failed, a count that stays at 2^64 - 1 once it is there.
+    ghost faults: { Self → ℕ };
+
+    /// How often `read` was called, a count that stays at 2^64 - 1 once it is there.
+    ghost reads: { Self → ℕ };
+
+    /// While it holds, `read` never fails. It need never hold.
+    ghost steady: { Self → Type 0 };
+
+    /// A handle of the table of this number, or `None` exactly where no table of it was sealed when the port
+    /// was made.
+    ///
+    /// `Failed` comes only where the count of faults rose.
+    fn find(&mut self, number: u64) -> Result<Option<Self::File>, Failed>
+        ensures number { IfOk result (λ found. IfSome found (λ file. Self.File.number file ≡ number)) }
+        ensures bytes { IfOk result (λ found. IsTrue Self.File.tells →
+            option_map Self.File.bytes found ≡ (table_files self.old).sealed number) }
+        ensures files { table_files self.new ≡ table_files self.old }
+        ensures reads { reads self.new ≡ reads self.old }
+        ensures steady { steady self.old → steady self.new }
+        ensures cause { HasCause (faults self.old) (faults self.new) result };
+
+    /// The numbers of all table files that were there when the port was made, ascending: of those that were
+    /// sealed, and of those that were begun and not sealed.
+    ///
+    /// `ListFault::Failed` comes only where the count of faults rose.
+    fn list(&mut self) -> Result<Vec<u64>, ListFault>
+        ensures ascending { IfOk result (λ numbers. IsStrictlyIncreasing numbers.items) }
+        ensures numbers { IfOk result (λ numbers. IsTrue Self.File.tells → Lists (table_files self.old) numbers.items) }
+        ensures files { table_files self.new ≡ table_files self.old }
+        ensures reads { reads self.new ≡ reads self.old }
+        ensures steady { steady self.old → steady self.new }
+        ensures later { faults self.old ≤ faults self.new }
+        ensures cause { result ≡ Err ListFault.Failed → Rose (faults self.old) (faults self.new) };
+
+    /// Copies the table's bytes from place `at` on to the front of `out`, and gives their count.
+    ///
+    /// It is less than the length of `out` exactly where the table ends before. `Failed` comes only where the
+    /// count of faults rose. A call is at most one read, and one at Ok.
+    fn read(&mut self, file: &Self::File, at: u64, out: &mut [u8]) -> Result<usize, Failed>
+        ensures count { IfOk result (λ n. n ≤ length out.old) }
+        ensures read { IfOk result (λ n. IsTrue Self.File.tells →
+            take n out.new ≡ take (length out.old) (drop at (Self.File.bytes file.now))) }
+        ensures files { table_files self.new ≡ table_files self.old }
+        ensures counted { OnOk result (reads self.new ≡ capped (reads self.old + 1)) }
+        ensures later { reads self.old ≤ reads self.new }
+        ensures once { reads self.new ≤ reads self.old + 1 }
+        ensures steady { steady self.old → IsOk result × steady self.new }
+        ensures cause { HasCause (faults self.old) (faults self.new) result };
+
+    /// A port on the same tables, with counts of 0. It is joined when it is done.
+    fn fork(&mut self) -> Result<Self, Memory>
+        ensures same { IfOk result (λ fork. table_files fork ≡ table_files self.old) }
+        ensures unused { IfOk result (λ fork. (faults fork ≡ 0) × (reads fork ≡ 0)) }
+        ensures fork_steady { steady self.old → IfOk result (λ fork. steady fork) }
+        ensures files { table_files self.new ≡ table_files self.old }
+        ensures reads { reads self.new ≡ reads self.old }
+        ensures steady { steady self.old → steady self.new }
+        ensures faults { faults self.new ≡ faults self.old };
+
+    /// Takes a fork back, and adds its counts to this port's.
+    fn join(&mut self, fork: Self)
+        ensures files { table_files self.new ≡ table_files self.old }
+        ensures reads { reads self.new ≡ capped (reads self.old + reads fork) }
+        ensures steady { steady self.old → steady self.new }
+        ensures faults { faults self.new ≡ capped (faults self.old + faults fork) };
+}

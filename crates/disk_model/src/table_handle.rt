@@ -1,0 +1,13 @@
+ghost use Rattle.std.specs.Prelude.{Bool, ℕ, List};
+
+/// A handle of a sealed table. Ports read by it, and the table's file stays while there is one.
+pub trait TableHandle {
+    /// Whether ports and makers of such handles tell what tables hold. Those over real files don't.
+    ghost tells: { Bool };
+
+    /// The table's number.
+    ghost number: { Self → ℕ };
+
+    /// The table's bytes, where they are told. They never change.
+    ghost bytes: { Self → List ℕ };
+}
