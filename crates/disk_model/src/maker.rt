@@ -9,7 +9,7 @@ use crate::{Failed, TableHandle};
 /// A table is begun, written and sealed. A maker counts its faults and the bytes that it took, and is handed
 /// back to its devices, which then tell what it sealed.
 pub trait Maker {
-    type File: TableHandle + Send + Sync + Drop;
+    type File: TableHandle;
 
     /// The number that is begun, if any.
     ghost begun: { Self → Option ℕ };

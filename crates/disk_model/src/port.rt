@@ -11,7 +11,7 @@ use peb_base::Memory;
 /// It finds those that were sealed when it was made. A port counts its faults and its reads, and is joined to
 /// another or handed back to its devices, so that the counts are kept.
 pub trait Port {
-    type File: TableHandle + Send + Sync + Drop;
+    type File: TableHandle;
 
     /// The table files that were there when the port was made. No call changes them.
     ghost table_files: { Self → TableFiles };

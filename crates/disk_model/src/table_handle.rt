@@ -1,7 +1,8 @@
 ghost use Rattle.std.specs.Prelude.{Bool, ℕ, List};
 
-/// A handle of a sealed table. Ports read by it, and the table's file stays while there is one.
-pub trait TableHandle {
+/// A handle of a sealed table. Ports read by it, and the table's file stays while there is one. It may be
+/// shared between threads.
+pub trait TableHandle: Send + Sync + Drop {
     /// Whether ports and makers of such handles tell what tables hold. Those over real files don't.
     ghost tells: { Bool };
 
