@@ -1,12 +1,12 @@
-use Rattle.std.proofs.Common.{ap, sym, ◌∙◌, subst, eqb, ◌==◌}
+use Rattle.std.proofs.Common.{ap, sym, ◌∙◌, subst, ◌==◌}
 use Rattle.std.specs.Prelude.{nat_eq}
 use Rattle.std.specs.List.Sorted.{IsStrictlyIncreasing}
 use Rattle.std.proofs.lemmas.List.Filters.{dedup_is}
 use Rattle.std.proofs.lemmas.List.Sorted.{list_any-IsPermutation}
 use Rattle.std.proofs.lemmas.Map.Keys.{IsStrictlyIncreasing-dedup}
 use Rattle.disk_model.specs.Tables.{is_among}
-use Rattle.disk_model.proofs.Ascending.{among-dedup}
-use Rattle.disk_model.proofs.port_tables.ascending.Goals as goal
+use Rattle.disk_model.proofs.Deduped.{among-dedup}
+use Rattle.disk_model.proofs.numbers.ascending.Goals as goal
 
 pub returns-clause-ascending : goal.returns-clause-ascending
 returns-clause-ascending c =
