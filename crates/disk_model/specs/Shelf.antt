@@ -1,5 +1,5 @@
 -- The tables that are kept in memory.
-use Rattle.std.specs.Prelude.{◌≡◌, ◌⊎◌, cond, IsTrue, ℕ, ◌/◌, ◌%◌, ◌^◌, ◌==◌, Bool, true, false, not, ◌&&◌, ◌||◌, List, [], ◌∷◌, ◌++◌, Option, None, Some, if◌then◌else◌}
+use Rattle.std.specs.Prelude.{◌≡◌, ◌⊎◌, cond, IsTrue, ℕ, ◌/◌, ◌%◌, ◌^◌, ◌==◌, Bool, true, false, not, ◌&&◌, ◌||◌, Option, None, Some, if◌then◌else◌}
 use Rattle.std.proofs.Common.{inl, inr, refl}
 use Rattle.std.specs.Option.{option_or}
 use Rattle.disk_model.specs.declared.made.Made.{Made}

@@ -1,10 +1,10 @@
 ghost use Rattle.std.specs.Prelude.{◌≡◌, ◌||◌, ℕ, IfOk, OnOk, is_some};
-ghost use Rattle.std.specs.List.Sorted.{IsStrictlyIncreasing};
 ghost use Rattle.disk_model.specs.Tables.{is_among, Lists};
 ghost use Rattle.disk_model.specs.TableLists.{table_in};
 ghost use Rattle.disk_model.specs.Shelf.{files_in};
 
 use crate::MemTableFile;
+use crate::numbers::ascending;
 use std::alloc::{AllocError, Global};
 
 /// The table files that a port in memory reads: the sealed ones, of which the first of a number counts, and the
@@ -13,16 +13,6 @@ use std::alloc::{AllocError, Global};
 pub struct PortTables {
     pub sealed: Vec<MemTableFile>,
     pub unsealed: Vec<u64>,
-}
-
-/// The same numbers, each once.
-fn ascending(mut numbers: Vec<u64>) -> Result<Vec<u64>, AllocError>
-    ensures ascending { IfOk result (λ each. IsStrictlyIncreasing each.items) }
-    ensures same { IfOk result (λ each. (n : ℕ) → is_among each.items n ≡ is_among numbers.items n) }
-{
-    numbers.sort()?;
-    numbers.dedup();
-    Ok(numbers)
 }
 
 /// The numbers of these tables.

@@ -1,5 +1,5 @@
 -- What the lines of commands show of all later batches.
-use Rattle.std.proofs.Common.{◌≡◌, ℕ, ◌+◌, ◌-◌, ◌*◌, ◌^◌, ◌<◌, ◌≤◌, max, Bool, true, false, List, [], ◌∷◌, ◌++◌, length, take, Option, Some, None, Result, Ok, Err, refl, sym, ap, ◌∙◌, subst, append_assoc, inl, inr, arith}
+use Rattle.std.proofs.Common.{◌≡◌, ℕ, ◌+◌, ◌-◌, ◌<◌, ◌≤◌, Bool, true, false, List, [], ◌∷◌, ◌++◌, Option, Some, None, Result, Ok, Err, refl, sym, ap, ◌∙◌, subst, append_assoc, inl, inr, arith}
 use Rattle.std.proofs.lemmas.List.{append-nil}
 use Rattle.std.proofs.lemmas.Bool.{lt-ltb, eq-eqb, and_from}
 use Rattle.std.specs.Prelude.{nat_lt, ◌==◌, ◌&&◌}
@@ -13,16 +13,15 @@ use Rattle.peb_base.specs.MapLaws.{last_of_push, map_before}
 use Rattle.script.specs.declared.command.Command.{Command}
 use Rattle.script.specs.declared.command.Command.TheVariants as commands
 use Rattle.script.specs.declared.cause.Cause.{Cause}
-use Rattle.script.specs.declared.cause.Cause.TheVariants as causes
 use Rattle.flsm_core.specs.declared.sync_fault.SyncFault.{SyncFault}
 use Rattle.flsm_core.specs.declared.sync_fault.SyncFault.TheVariants as syncs
-use Rattle.flsm_core.specs.Place.{Place, all_of, put_op, next_number, with_batch, all_settled, halted, after_sync, Syncs}
+use Rattle.flsm_core.specs.Place.{Place, all_of, put_op, next_number, with_batch, all_settled, halted, after_sync}
 use Rattle.flsm_core.specs.Standing.{IsFront}
 use Rattle.pebbles_cli.specs.declared.write_fault.WriteFault.{WriteFault}
 use Rattle.pebbles_cli.specs.declared.write_fault.WriteFault.TheVariants as writes
 use Rattle.pebbles_cli.specs.Writes.{Writes, after_write}
-use Rattle.pebbles_cli.specs.Tells.{Tells, TellsOne, TellsPut, TellsGet, value_line, write_line, write_cause, get_line}
-use Rattle.pebbles_cli.specs.Shows.{Has, IsKept, Shows, ShowsPut, ShowsGet, ShowsAll, RunsShow, StoppedStays}
+use Rattle.pebbles_cli.specs.Tells.{Tells, TellsOne, value_line, write_line, write_cause}
+use Rattle.pebbles_cli.specs.Shows.{Has, IsKept, Shows, ShowsAll, RunsShow, StoppedStays}
 
 -- ---- batches that grow
 

@@ -1,5 +1,5 @@
 -- What an opening hands on of what the devices told.
-use Rattle.std.proofs.Common.{◌≡◌, ◌≢◌, ◌⊎◌, ℕ, Bool, true, false, inr, sym, ◌∙◌, subst, arith}
+use Rattle.std.proofs.Common.{◌≡◌, ◌≢◌, ℕ, Bool, true, false, inr, sym, ◌∙◌, subst, arith}
 use Rattle.peb_base.specs.Batches.{Batches}
 use Rattle.peb_base.specs.declared.profile.Profile.TheVariants.{Small}
 use Rattle.disk_model.specs.Images.{Image, Rose}

@@ -1,5 +1,5 @@
 -- A script that is read and run.
-use Rattle.std.proofs.Common.{◌≡◌, ◌≢◌, ◌⊎◌, ℕ, ◌≤◌, ◌<◌, Bool, List, Option, Some, None, Ok, Err, refl, sym, ◌∙◌, subst, inl, inr}
+use Rattle.std.proofs.Common.{◌≡◌, ◌⊎◌, ℕ, Bool, List, Option, Some, None, Ok, Err, sym, ◌∙◌, subst, inl, inr}
 use Rattle.peb_base.specs.Batches.{Batches}
 use Rattle.peb_base.specs.declared.limit_kind.LimitKind.{LimitKind}
 use Rattle.peb_base.specs.declared.limit_kind.LimitKind.TheVariants as kinds

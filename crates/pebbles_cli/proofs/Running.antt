@@ -1,13 +1,11 @@
 -- A run from its opening to its report.
-use Rattle.std.proofs.Common.{◌≡◌, ◌≢◌, ◌⊎◌, ℕ, ◌≤◌, Bool, true, false, IsTrue, List, [], ◌∷◌, ◌++◌, take, Option, Some, None, Result, Ok, Err, refl, sym, ap, ◌∙◌, subst, inl, inr, arith}
+use Rattle.std.proofs.Common.{◌≡◌, ◌≢◌, ℕ, Bool, true, false, IsTrue, List, [], ◌∷◌, ◌++◌, take, Option, Some, None, Result, Ok, Err, refl, sym, ap, ◌∙◌, subst, inl, inr}
 use Rattle.std.specs.Prelude.{IsErrOf}
 use Rattle.std.specs.Result.{is_err}
 use Rattle.std.specs.Option.{option_or, unwrap_or}
 use Rattle.std.proofs.lemmas.Bool.{true≢false}
 use Rattle.std.proofs.lemmas.List.{append-nil}
 use Rattle.peb_base.specs.Batches.{Batches, last_number}
-use Rattle.peb_base.specs.declared.limit_kind.LimitKind.{LimitKind}
-use Rattle.peb_base.specs.declared.limit_kind.LimitKind.TheVariants as kinds
 use Rattle.disk_model.specs.declared.failed.Failed.{Failed}
 use Rattle.disk_model.specs.Bytes.{Takes, IsFresh}
 use Rattle.disk_model.specs.Images.{Image}

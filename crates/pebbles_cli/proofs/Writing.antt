@@ -1,11 +1,10 @@
 -- Where a write leads, by the store's answers.
-use Rattle.std.proofs.Common.{◌≡◌, ◌⊎◌, ℕ, ◌-◌, ◌^◌, Bool, true, false, List, Option, Some, None, Result, Ok, Err, refl, sym, ◌∙◌, ap, subst, inl, inr}
+use Rattle.std.proofs.Common.{◌≡◌, ℕ, Bool, true, List, Result, Ok, Err, refl, sym, subst, inl, inr}
 use Rattle.peb_base.specs.declared.op.Op.{Op}
 use Rattle.peb_base.specs.declared.limit_kind.LimitKind.{LimitKind}
-use Rattle.script.specs.declared.cause.Cause.{Cause}
 use Rattle.flsm_core.specs.declared.commit_fault.CommitFault.{CommitFault}
 use Rattle.flsm_core.specs.declared.commit_fault.CommitFault.TheVariants as commits
-use Rattle.flsm_core.specs.Place.{Place, all_of, next_number, with_batch, all_settled, halted, after_put, Puts, PassesLimit}
+use Rattle.flsm_core.specs.Place.{Place, with_batch, Puts, PassesLimit}
 use Rattle.pebbles_cli.specs.declared.write_fault.WriteFault.{WriteFault}
 use Rattle.pebbles_cli.specs.declared.write_fault.WriteFault.TheVariants as writes
 use Rattle.pebbles_cli.specs.Writes.{refused, after_write, Writes, OnUnsynced, after_stable, IsStable}

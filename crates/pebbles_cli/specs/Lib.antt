@@ -1,4 +1,5 @@
 pub mod Causes
+pub mod Gone
 pub mod Read
 pub mod Returning
 pub mod Shows

@@ -1,7 +1,8 @@
 //! The count of faults that each object of the outside has.
 
-ghost use Rattle.std.specs.Prelude.{◌≡◌, ◌≤◌, Ok, IfOk};
+ghost use Rattle.std.specs.Prelude.{◌≡◌, ◌≤◌, ◌+◌, Ok, IfOk};
 ghost use Rattle.disk_model.specs.Images.{Rose, HasCause};
+ghost use Rattle.disk_model.specs.Tables.{capped};
 
 use disk_model::Failed;
 
@@ -26,6 +27,13 @@ impl Faults {
     {
         self.count = self.count.saturating_add(1);
         Failed
+    }
+
+    /// Adds the count of another object.
+    pub fn add(&mut self, other: Faults)
+        ensures { self.new.count ≡ capped (self.old.count + other.count) }
+    {
+        self.count = self.count.saturating_add(other.count);
     }
 
     /// What the system answered, as devices answer it: every error is a fault, and is counted.

@@ -1,9 +1,9 @@
 //! Reads and writes at a place of an open file.
 
-ghost use Rattle.std.specs.Prelude.{◌≡◌, ◌≤◌, length, IfOk};
+ghost use Rattle.std.specs.Prelude.{◌≡◌, ◌≤◌, length, IfOk, OnOk};
 
 use std::io;
-use std::io::{Read, Seek, SeekFrom, Write};
+use std::io::{ErrorKind, Read, Seek, SeekFrom, Write};
 
 /// Reads from place `at` on until `out` is full or the file ends, and gives the count of bytes.
 pub fn read_at<F: Read + Seek>(file: &mut F, at: u64, out: &mut [u8]) -> io::Result<usize>
@@ -25,4 +25,20 @@ pub fn read_at<F: Read + Seek>(file: &mut F, at: u64, out: &mut [u8]) -> io::Res
 pub fn write_at<F: Write + Seek>(file: &mut F, at: u64, bytes: &[u8]) -> io::Result<()> {
     file.seek(SeekFrom::Start(at))?;
     file.write_all(bytes)
+}
+
+/// Writes all bytes at the file's place, and raises `count` by those written, also where some aren't.
+pub fn write_counted<F: Write>(file: &mut F, bytes: &[u8], count: &mut usize) -> io::Result<()>
+    requires { count.old ≡ 0 }
+    ensures within { count.new ≤ length bytes.now }
+    ensures whole { OnOk result (count.new ≡ length bytes.now) }
+{
+    while *count < bytes.len() {
+        let more = file.write(&bytes[*count..])?;
+        if more == 0 {
+            return Err(io::Error::from(ErrorKind::WriteZero));
+        }
+        *count += more;
+    }
+    Ok(())
 }

@@ -1,15 +1,14 @@
-//! The directory of a journal, by calls of the file system.
+//! The files of a journal, by calls of the file system.
 
 ghost use Rattle.std.specs.Prelude.{◌≡◌, ◌≤◌, ◌<◌, ◌+◌, ◌^◌, length, IfOk, OnOk, IfSome};
 
 use crate::file_at::{read_at, write_at};
+use crate::folder::Folder;
 use disk_model::JournalFile;
-use std::alloc::AllocError;
-use std::fmt::Display;
-use std::fs::{File, OpenFile, OpenOptions};
+use std::fs::{OpenFile, OpenOptions};
+use std::io;
 use std::io::ErrorKind;
 use std::rt::Files;
-use std::{fs, io};
 
 /// The places of a file lie below this one.
 const PLACES: u64 = 1 << 63;
@@ -21,24 +20,22 @@ struct Opened<F> {
     handle: F,
 }
 
-/// The directory of a journal. One that isn't there reads as an empty one.
+/// The files of a journal in their directory.
 ///
 /// It keeps the handle of the file last used, so that a write and a sync open nothing.
 #[derive(Drop)]
 pub struct JournalFolder<R: Files + AllocGlobal + Clone + Drop> {
-    rt: R,
-    name: String,
+    folder: Folder<R>,
     opened: Option<Opened<R::File>>,
     /// Whether no name in the directory has changed since it was synced. Before its first sync nothing is known.
     names_are_stable: bool,
 }
 
 impl<R: Files + AllocGlobal + Clone + Drop> JournalFolder<R> {
-    /// The directory of this name.
-    pub fn new(rt: R, name: String) -> JournalFolder<R> {
+    /// The journal in this directory.
+    pub fn new(folder: Folder<R>) -> JournalFolder<R> {
         JournalFolder {
-            rt,
-            name,
+            folder,
             opened: None,
             names_are_stable: false,
         }
@@ -95,19 +92,10 @@ impl<R: Files + AllocGlobal + Clone + Drop> JournalFolder<R> {
         if self.has_opened(file) {
             self.opened = None;
         }
-        let path = self.path_of(file.file_name())?;
-        match fs::remove_file(&self.rt, path) {
-            Ok(()) => self.names_are_stable = false,
-            Err(error) if error.kind() == ErrorKind::NotFound => {}
-            Err(error) => return Err(error),
+        if self.folder.remove(file.file_name())? {
+            self.names_are_stable = false;
         }
         self.sync_names()
-    }
-
-    /// The path of a name in the directory.
-    fn path_of(&self, name: impl Display + Drop) -> Result<String, AllocError> {
-        let folder = &self.name;
-        format!(in self.rt.alloc(); "{folder}/{name}")
     }
 
     /// The handle of the file, or `None` where it isn't there.
@@ -129,11 +117,11 @@ impl<R: Files + AllocGlobal + Clone + Drop> JournalFolder<R> {
     }
 
     fn open(&self, file: JournalFile) -> io::Result<Option<Opened<R::File>>> {
-        let path = self.path_of(file.file_name())?;
+        let path = self.folder.path_of(file.file_name())?;
         match OpenOptions::new()
             .read(true)
             .write(true)
-            .open(&self.rt, path)
+            .open(&self.folder.rt, path)
         {
             Ok(handle) => Ok(Some(Opened { file, handle })),
             Err(error) if error.kind() == ErrorKind::NotFound => Ok(None),
@@ -144,21 +132,14 @@ impl<R: Files + AllocGlobal + Clone + Drop> JournalFolder<R> {
     /// Makes an absent file, and the directory where that is absent too.
     fn make(&mut self, file: JournalFile) -> io::Result<&mut R::File> {
         self.names_are_stable = false;
-        self.make_folder()?;
-        let path = self.path_of(file.file_name())?;
+        self.folder.make()?;
+        let path = self.folder.path_of(file.file_name())?;
         let handle = OpenOptions::new()
             .read(true)
             .write(true)
             .create_new(true)
-            .open(&self.rt, path)?;
+            .open(&self.folder.rt, path)?;
         Ok(&mut self.opened.insert(Opened { file, handle }).handle)
-    }
-
-    fn make_folder(&self) -> io::Result<()> {
-        match fs::create_dir(&self.rt, self.name.as_str()) {
-            Err(error) if error.kind() != ErrorKind::AlreadyExists => Err(error),
-            _ => Ok(()),
-        }
     }
 
     /// Makes the names in the directory stable, and the directory's own name.
@@ -167,19 +148,9 @@ impl<R: Files + AllocGlobal + Clone + Drop> JournalFolder<R> {
     /// syncs whatever this run did.
     fn sync_names(&mut self) -> io::Result<()> {
         if !self.names_are_stable {
-            self.sync_folder("..")?;
-            self.sync_folder(".")?;
+            self.folder.sync_names()?;
             self.names_are_stable = true;
         }
         Ok(())
-    }
-
-    /// Syncs a directory by its path from this one. Where this one isn't there, there is none to sync.
-    fn sync_folder(&self, path: &str) -> io::Result<()> {
-        match File::open(&self.rt, self.path_of(path)?) {
-            Ok(folder) => folder.sync_all(),
-            Err(error) if error.kind() == ErrorKind::NotFound => Ok(()),
-            Err(error) => Err(error),
-        }
     }
 }

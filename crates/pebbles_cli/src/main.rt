@@ -5,8 +5,10 @@ mod closing;
 mod ended;
 mod faults;
 mod file_at;
+mod folder;
 mod journal_folder;
 mod laws;
+mod makers;
 mod opening;
 mod read_fault;
 mod read_script;
@@ -14,13 +16,19 @@ mod real_devices;
 mod real_journal;
 #[cfg(test)]
 mod real_journal_tests;
+mod real_maker;
+mod real_port;
 mod real_scripts;
 mod real_sink;
 mod real_sinks;
+mod real_table;
+#[cfg(test)]
+mod real_tables_tests;
 mod returned;
 mod run;
 mod serve;
 mod served;
+mod taken_away;
 #[cfg(test)]
 mod tests;
 mod top;

@@ -1,27 +1,40 @@
 //! The devices over a real directory.
 
 ghost use Rattle.std.specs.Prelude.{◌≡◌, ◌≤◌, ℕ, None, false, IfOk};
-ghost use Rattle.pebbles_cli.specs.Silent.{nothing_told};
+ghost use Rattle.pebbles_cli.specs.Silent.{nothing_told, no_table_files};
 
 use crate::faults::Faults;
+use crate::folder::Folder;
 use crate::journal_folder::JournalFolder;
+use crate::makers::Makers;
 use crate::real_journal::RealJournal;
+use crate::real_maker::RealMaker;
+use crate::real_port::RealPort;
+use crate::real_table::RealTable;
 use disk_model::{Devices, Failed};
-use std::io;
+use std::alloc::AllocError;
 use std::io::ErrorKind;
 use std::rt::Files;
+use std::{io, mem};
 
 /// The devices over a real directory. They tell nothing of what its files hold.
 #[derive(Drop)]
 pub struct RealDevices<R: Files + AllocGlobal + Clone + Drop> {
     rt: R,
-    folder: Option<String>,
+    folder: Option<Folder<R>>,
     is_trusted: bool,
     journal_faults: Faults,
     faults: Faults,
+    reads: u64,
+    taken: u64,
+    makers: Makers,
+    table_faults: Faults,
 }
 
 impl<R: Files + AllocGlobal + Clone + Drop> RealDevices<R> {
+    ghost use Rattle.pebbles_cli.specs.Gone.{gone_of};
+    ghost use Rattle.disk_model.specs.Tables.{none_gone};
+
     /// Devices whose directory isn't chosen yet. They keep the runtime.
     pub fn new(rt: R) -> RealDevices<R> {
         RealDevices {
@@ -30,6 +43,24 @@ impl<R: Files + AllocGlobal + Clone + Drop> RealDevices<R> {
             is_trusted: true,
             journal_faults: Faults::none(),
             faults: Faults::none(),
+            reads: 0,
+            taken: 0,
+            makers: Makers::Nothing,
+            table_faults: Faults::none(),
+        }
+    }
+
+    /// The directory of this name.
+    fn folder_of(&self, name: &str) -> Result<Folder<R>, AllocError> {
+        let name = String::from_str(self.rt.alloc(), name)?;
+        Ok(Folder::new(self.rt.clone()?, name))
+    }
+
+    /// The directory that was chosen.
+    fn chosen(&self) -> io::Result<Folder<R>> {
+        match &self.folder {
+            Some(folder) => Ok(folder.copy()?),
+            None => Err(io::Error::from(ErrorKind::NotFound)),
         }
     }
 
@@ -37,16 +68,37 @@ impl<R: Files + AllocGlobal + Clone + Drop> RealDevices<R> {
     fn open_journal(&self) -> io::Result<RealJournal<R>>
         ensures faults { IfOk result (λ journal. journal.faults ≡ self.now.journal_faults) }
     {
-        let Some(name) = &self.folder else {
-            return Err(io::Error::from(ErrorKind::NotFound));
-        };
-        let folder = JournalFolder::new(self.rt.clone()?, name.clone()?);
-        Ok(RealJournal::new(folder, self.is_trusted, self.journal_faults))
+        let files = JournalFolder::new(self.chosen()?);
+        Ok(RealJournal::new(files, self.is_trusted, self.journal_faults))
+    }
+
+    fn make_port(&self) -> io::Result<RealPort<R>>
+        ensures faults { IfOk result (λ port. port.faults.count ≡ 0) }
+        ensures reads { IfOk result (λ port. port.reads ≡ 0) }
+    {
+        Ok(RealPort::new(self.chosen()?))
+    }
+
+    fn make_maker(&self) -> io::Result<RealMaker<R>>
+        ensures begun { IfOk result (λ maker. maker.begun ≡ None) }
+        ensures taken { IfOk result (λ maker. maker.taken ≡ 0) }
+        ensures away { IfOk result (λ maker. gone_of maker.away ≡ none_gone) }
+        ensures faults { IfOk result (λ maker. maker.faults.count ≡ 0) }
+    {
+        Ok(RealMaker::new(self.chosen()?)?)
     }
 }
 
-impl<R: Files<File: Send> + AllocGlobal + Clone + Drop + Send> Devices for RealDevices<R> {
+impl<R: Files<File: Send> + AllocGlobal + Clone + Drop + Send + Sync> Devices for RealDevices<R> {
+    ghost use Rattle.pebbles_cli.specs.Gone.{gone_by};
+
     type J = RealJournal<R>;
+
+    type F = RealTable<R>;
+
+    type P = RealPort<R>;
+
+    type M = RealMaker<R>;
 
     ghost seen = { λ _ _. None };
 
@@ -58,9 +110,19 @@ impl<R: Files<File: Send> + AllocGlobal + Clone + Drop + Send> Devices for RealD
 
     ghost journal_faults = { λ devices. devices.journal_faults.count };
 
+    ghost steady = { λ _. ⊥ };
+
     ghost faults = { λ devices. devices.faults.count };
 
-    ghost steady = { λ _. ⊥ };
+    ghost table_files = { λ _. no_table_files };
+
+    ghost kept = { λ _ _. None };
+
+    ghost tally = { λ devices. record { reads = devices.reads; taken = devices.taken; gone = gone_by devices.makers } };
+
+    ghost table_faults = { λ devices. devices.table_faults.count };
+
+    ghost ports_steady = { λ _. ⊥ };
 
     ghost counts_now = { λ devices t image le now. now };
 
@@ -68,9 +130,11 @@ impl<R: Files<File: Send> + AllocGlobal + Clone + Drop + Send> Devices for RealD
 
     ghost read_is_left = { λ devices told. nothing_told told };
 
+    ghost there_is_left = { λ devices told. absurd (nothing_told told) };
+
     fn set(&mut self, dir: &str) -> Result<(), Failed> {
-        let name = self.faults.told(String::from_str(self.rt.alloc(), dir))?;
-        self.folder = Some(name);
+        let folder = self.folder_of(dir);
+        self.folder = Some(self.faults.told(folder)?);
         Ok(())
     }
 
@@ -79,8 +143,35 @@ impl<R: Files<File: Send> + AllocGlobal + Clone + Drop + Send> Devices for RealD
         self.faults.told(journal)
     }
 
+    fn port(&mut self) -> Result<RealPort<R>, Failed> {
+        let port = self.make_port();
+        self.table_faults.told(port)
+    }
+
+    fn maker(&mut self) -> Result<RealMaker<R>, Failed> {
+        let maker = self.make_maker();
+        self.table_faults.told(maker)
+    }
+
     fn back(&mut self, journal: RealJournal<R>) {
         self.is_trusted = self.is_trusted && journal.is_trusted;
         self.journal_faults = journal.faults;
+    }
+
+    fn back_port(&mut self, port: RealPort<R>) {
+        self.reads = self.reads.saturating_add(port.reads);
+        self.table_faults.add(port.faults);
+    }
+
+    fn back_maker(&mut self, maker: RealMaker<R>) {
+        self.taken = self.taken.saturating_add(maker.taken);
+        self.table_faults.add(maker.faults);
+        let RealMaker {
+            away,
+            mut place,
+            ..
+        } = maker;
+        *place = mem::replace(&mut self.makers, Makers::Nothing);
+        self.makers = Makers::Maker(away, place);
     }
 }

@@ -1,6 +1,7 @@
 //! Which syncs the journal over real files asks for: no contract can say it.
 
 use crate::faults::Faults;
+use crate::folder::Folder;
 use crate::journal_folder::JournalFolder;
 use crate::real_journal::RealJournal;
 use crate::watched::{Seen, Watched};
@@ -16,8 +17,8 @@ fn journal_over(alloc: Global, seen: &Rc<Seen>) -> Result<RealJournal<Watched>, 
         alloc,
         seen: seen.clone()?,
     };
-    let folder = JournalFolder::new(rt, String::from_str(alloc, "d")?);
-    Ok(RealJournal::new(folder, true, Faults::none()))
+    let folder = Folder::new(rt, String::from_str(alloc, "d")?);
+    Ok(RealJournal::new(JournalFolder::new(folder), true, Faults::none()))
 }
 
 #[test]

@@ -175,6 +175,7 @@ fn a_journal_that_fails_once_leaves_the_batch_or_nothing(rt: HostRuntime) -> Res
         for pick in PICKS {
             let plans = Plans {
                 journal: failing(alloc, call)?,
+                ..Plans::empty(alloc)
             };
             let told = run(
                 alloc,
@@ -227,6 +228,7 @@ fn what_was_told_synced_is_there_after_any_crash(rt: HostRuntime) -> Result<(), 
                     calls: Vec::new(alloc),
                     from: Some(call),
                 },
+                ..Plans::empty(alloc)
             };
             let script = b"put! a 1\nput! b 2\nput! c 3\nput! d 4\nput! e 5\n";
             let told = run(alloc, MemDevices::new(alloc, plans)?, script)?;

@@ -1,4 +1,4 @@
-use Rattle.std.proofs.Common.{◌≡◌, ◌≢◌, inl, inr, false, sym, ◌∙◌, subst, arith}
+use Rattle.std.proofs.Common.{◌≢◌, inl, inr, false, sym, subst, arith}
 use Rattle.disk_model.specs.Images.{Rose}
 use Rattle.flsm_core.specs.Logs.{HoldsLogs, Stands}
 use Rattle.flsm_core.specs.Opening.{OpenCause}

@@ -1,4 +1,4 @@
-use Rattle.std.proofs.Common.{◌≡◌, ◌≤◌, ◌∙◌, length, sym, false, arith}
+use Rattle.std.proofs.Common.{◌≡◌, ◌∙◌, length, sym, false, arith}
 use Rattle.std.specs.Result.{is_err}
 use Rattle.pebbles_cli.proofs.Reading.{begins_read}
 use Rattle.pebbles_cli.proofs.read_script.read_script.Goals as goal

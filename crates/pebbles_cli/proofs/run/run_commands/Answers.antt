@@ -1,4 +1,4 @@
-use Rattle.std.proofs.Common.{◌≡◌, ◌⊎◌, inl, inr, [], false, true, refl, subst}
+use Rattle.std.proofs.Common.{◌⊎◌, inl, inr, [], false, refl, subst}
 use Rattle.disk_model.specs.Images.{Rose}
 use Rattle.script.specs.declared.cause.Cause.TheVariants.{Sink}
 use Rattle.flsm_core.specs.Place.{opened}

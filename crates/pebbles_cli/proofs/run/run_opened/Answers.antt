@@ -1,4 +1,4 @@
-use Rattle.std.proofs.Common.{◌≡◌, sym, ◌∙◌, subst, arith}
+use Rattle.std.proofs.Common.{◌∙◌, subst, arith}
 use Rattle.disk_model.specs.Images.{Rose}
 use Rattle.flsm_core.specs.Place.{after_sync}
 use Rattle.flsm_core.specs.State.{state_session, state_journal}

@@ -1,4 +1,4 @@
-use Rattle.std.proofs.Common.{◌≡◌, ◌∷◌, [], refl, sym, subst}
+use Rattle.std.proofs.Common.{◌∷◌, [], refl, sym, subst}
 use Rattle.disk_model.specs.Images.{Rose}
 use Rattle.flsm_core.specs.Place.{put_op}
 use Rattle.pebbles_cli.specs.Writes.{after_write}

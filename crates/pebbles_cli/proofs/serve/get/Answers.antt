@@ -1,4 +1,4 @@
-use Rattle.std.proofs.Common.{◌≡◌, ℕ, Some, None, sym, ap, ◌∙◌}
+use Rattle.std.proofs.Common.{◌≡◌, ℕ, Some, None, ap, ◌∙◌}
 use Rattle.peb_base.specs.Batches.{last_number}
 use Rattle.peb_base.specs.Map.{value_at}
 use Rattle.flsm_core.specs.Place.{all_of}

@@ -1,8 +1,8 @@
-use Rattle.std.proofs.Common.{rules, ◌≡◌, ◌≤◌, ◌+◌, true, false, [], ◌∷◌, ◌++◌, length, take, refl, sym, ap, ◌∙◌, subst, arith}
+use Rattle.std.proofs.Common.{rules, ◌≡◌, ◌+◌, true, false, [], ◌∷◌, ◌++◌, length, take, refl, sym, ap, ◌∙◌, subst, arith}
 use Rattle.std.specs.Result.{is_err}
 use Rattle.std.specs.Vec.Iter.{into_iter_items, into_iter_len}
 use Rattle.disk_model.specs.Images.{Rose}
-use Rattle.pebbles_cli.specs.Tells.{Since, TellsOne}
+use Rattle.pebbles_cli.specs.Tells.{TellsOne}
 use Rattle.pebbles_cli.specs.Causes.{LineCause}
 use Rattle.pebbles_cli.proofs.Serving.{since_none, took_none, took_more, took_front, goes_on, stops, ends, journal_more}
 use Rattle.pebbles_cli.proofs.serve.serve.Goals as goal

@@ -1,4 +1,4 @@
-use Rattle.std.proofs.Common.{◌≡◌, ◌⊎◌, sym, ◌∙◌, subst}
+use Rattle.std.proofs.Common.{◌⊎◌, sym, subst}
 use Rattle.disk_model.specs.Images.{Rose}
 use Rattle.pebbles_cli.specs.Read.{IsWhole}
 use Rattle.pebbles_cli.specs.Causes.{Says}

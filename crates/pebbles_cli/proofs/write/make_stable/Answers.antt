@@ -1,4 +1,4 @@
-use Rattle.std.proofs.Common.{Err, true, false, inl, inr, refl, sym, ◌∙◌, subst}
+use Rattle.std.proofs.Common.{Err, inl, inr, refl, sym, ◌∙◌, subst}
 use Rattle.std.proofs.lemmas.Bool.{true≢false}
 use Rattle.flsm_core.specs.declared.sync_fault.SyncFault.TheVariants.{Stopped}
 use Rattle.flsm_core.specs.Place.{after_sync, Syncs}

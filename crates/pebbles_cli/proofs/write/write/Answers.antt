@@ -1,7 +1,7 @@
-use Rattle.std.proofs.Common.{◌≡◌, ◌∷◌, [], Ok, Err, sym, ◌∙◌, subst}
+use Rattle.std.proofs.Common.{◌∷◌, [], Err, sym, subst}
 use Rattle.disk_model.specs.Images.{Rose}
 use Rattle.flsm_core.specs.Place.{with_batch, put_op}
-use Rattle.pebbles_cli.specs.Writes.{Writes, after_write, OnUnsynced, refused}
+use Rattle.pebbles_cli.specs.Writes.{Writes, after_write, OnUnsynced}
 use Rattle.pebbles_cli.proofs.Writing.{refused_leads, refused_answers, refused_cause, stable_leads, stable_answers}
 use Rattle.pebbles_cli.proofs.write.write.Goals as goal
 

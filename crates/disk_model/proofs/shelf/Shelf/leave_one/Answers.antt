@@ -1,5 +1,4 @@
 use Rattle.std.proofs.Common.{ap, sym, ◌∙◌}
-use Rattle.disk_model.specs.Tables.{is_gone}
 use Rattle.disk_model.specs.TableLists.{table_in}
 use Rattle.disk_model.specs.Shelf.{gone_by, is_lost}
 use Rattle.disk_model.proofs.Shelves.{left_pushed}
