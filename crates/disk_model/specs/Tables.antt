@@ -1,7 +1,11 @@
 -- What ports, makers and devices tell of tables.
-use Rattle.std.specs.Prelude.{◌≡◌, ◌⊎◌, ℕ, ◌+◌, ◌-◌, ◌^◌, ◌≤◌, ◌==◌, ◌↔◌, min, Bool, ◌||◌, IsTrue, List, [], ◌∷◌, ◌++◌, length, take, Option, None, Some, is_some, if◌then◌else◌, Contains}
+use Rattle.std.specs.Prelude.{◌≡◌, ◌⊎◌, ℕ, ◌+◌, ◌-◌, ◌^◌, ◌≤◌, ◌==◌, min, Bool, false, ◌||◌, IsTrue, List, [], ◌∷◌, ◌++◌, length, take, Option, None, Some, is_some, if◌then◌else◌}
 use Rattle.std.specs.List.{list_any}
 use Rattle.std.specs.List.Sorted.{IsStrictlyIncreasing}
+
+-- the number is one of these
+abbrev pub is_among : List ℕ → ℕ → Bool
+is_among numbers n = list_any (λ m. m == n) numbers
 
 -- a count that stays at 2^64 - 1 once it is there
 abbrev pub capped : ℕ → ℕ
@@ -27,7 +31,7 @@ is_listed files n = is_some (files.sealed n) || files.is_unsealed n
 -- the numbers of all table files that are there, ascending
 pub record Lists (files : TableFiles) (numbers : List ℕ) : Type 0 where
   pub ascending : IsStrictlyIncreasing numbers
-  pub complete : (n : ℕ) → Contains numbers n ↔ IsTrue (is_listed files n)
+  pub complete : (n : ℕ) → is_among numbers n ≡ is_listed files n
 
 -- the numbers of tables that were retired and that were removed, the earliest first
 pub record Gone : Type 0 where
@@ -44,9 +48,13 @@ with_retired number gone = record gone { retired = gone.retired ++ number ∷ []
 abbrev pub with_removed : ℕ → Gone → Gone
 with_removed number gone = record gone { removed = gone.removed ++ number ∷ [] }
 
+-- the numbers of both, those of the first before those of the second
+abbrev pub joined : Gone → Gone → Gone
+joined first second = record { retired = first.retired ++ second.retired; removed = first.removed ++ second.removed }
+
 -- the table of this number was retired or removed
 abbrev pub is_gone : Gone → ℕ → Bool
-is_gone gone n = list_any (λ m. m == n) gone.retired || list_any (λ m. m == n) gone.removed
+is_gone gone n = is_among gone.retired n || is_among gone.removed n
 
 -- a table has its bytes, or was retired or removed and isn't there
 abbrev pub StaysOrGoes : Gone → ℕ → Option (List ℕ) → Option (List ℕ) → Type 0
@@ -81,11 +89,7 @@ with_port reads tally = record tally { reads = capped (tally.reads + reads) }
 
 -- with the bytes and the numbers of one maker more
 abbrev pub with_maker : ℕ → Gone → Tally → Tally
-with_maker taken gone tally = record {
-  reads = tally.reads;
-  taken = capped (tally.taken + taken);
-  gone = record { retired = tally.gone.retired ++ gone.retired; removed = tally.gone.removed ++ gone.removed };
-}
+with_maker taken gone tally = record tally { taken = capped (tally.taken + taken); gone = joined tally.gone gone }
 
 -- what devices tell of tables stays: the files that are there, the tables that a crash may leave, and what was
 -- done; and ports over them read as before
@@ -94,6 +98,12 @@ pub record TablesStay (files0 files : TableFiles) (kept0 kept : Sealed) (tally0 
   pub left : kept ≡ kept0
   pub done : tally ≡ tally0
   pub steady_still : steady0 → steady
+
+-- no table is to come back, none is begun, and nothing was done
+pub record TablesRest (files : TableFiles) (kept : Sealed) (tally : Tally) : Type 0 where
+  pub all_there : (n : ℕ) → kept n ≡ files.sealed n
+  pub none_unsealed : (n : ℕ) → files.is_unsealed n ≡ false
+  pub nothing_done : tally ≡ no_tally
 
 -- a maker that did nothing yet
 pub record IsNewMaker (faults taken : ℕ) (gone : Gone) (begun : Option ℕ) (sealed : Sealed) : Type 0 where

@@ -1,3 +1,4 @@
+ghost use Rattle.std.specs.Prelude.{◌≡◌, false};
 ghost use Rattle.disk_model.specs.Plans.{IsEmptyPlan};
 
 use std::alloc::Global;
@@ -20,5 +21,16 @@ impl FailPlan {
             calls: Vec::new(alloc),
             from: None,
         }
+    }
+
+    /// Whether the call that is counted so fails.
+    pub(crate) fn fails(&self, call: u64) -> bool
+        ensures { IsEmptyPlan self.now → result ≡ false }
+    {
+        let late = match self.from {
+            Some(first) => first <= call,
+            None => false,
+        };
+        late || self.calls.contains(&call)
     }
 }

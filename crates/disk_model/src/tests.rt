@@ -29,7 +29,13 @@ fn listed_calls_and_all_from_one_on_fail_and_do_nothing(rt: HostRuntime) -> Resu
         calls: vec![in alloc; 2]?,
         from: Some(5),
     };
-    let mut devices = MemDevices::new(alloc, Plans { journal: plan })?;
+    let mut devices = MemDevices::new(
+        alloc,
+        Plans {
+            journal: plan,
+            ..Plans::empty(alloc)
+        },
+    )?;
     let mut journal = devices.journal()?;
     let mut out = [0; 4];
     journal.write(LOG, 0, b"abcd")?;

@@ -41,12 +41,7 @@ impl Turns {
         ensures cause { HasCause self.old.faults self.new.faults result }
     {
         self.made = self.made.wrapping_add(1);
-        let listed = self.plan.calls.contains(&self.made);
-        let late = match self.plan.from {
-            Some(first) => first <= self.made,
-            None => false,
-        };
-        if listed || late {
+        if self.plan.fails(self.made) {
             return Err(self.fail());
         }
         Ok(())
