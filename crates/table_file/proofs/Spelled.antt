@@ -1,5 +1,5 @@
 -- Bytes appended one after another.
-use Rattle.std.proofs.Common.{◌≡◌, ℕ, ◌+◌, List, ◌++◌, length, Option, Some, ap, sym, ◌∙◌, refl, arith, append_assoc, length-append}
+use Rattle.std.proofs.Common.{◌≡◌, ℕ, ◌+◌, List, ◌++◌, length, Option, Some, ap, ◌∙◌, refl, arith, append_assoc, length-append}
 use Rattle.peb_base.specs.declared.entry.Entry.{Entry}
 use Rattle.table_file.specs.Form.{body_bytes, index_bytes, items_from, key_filter, footer_bytes, blocks_table}
 use Rattle.table_file.specs.declared.footer.Footer.{Footer}

@@ -2,7 +2,7 @@
 use Rattle.std.specs.Prelude.{◌≡◌, ℕ, Option, Some, None, Result, Ok, Err, List, [], ◌∷◌, ◌++◌, length, nat_lt, nat_le, if◌then◌else◌}
 use Rattle.peb_base.specs.declared.entry.Entry.{Entry}
 use Rattle.peb_base.specs.declared.limit_kind.LimitKind.TheVariants as kinds
-use Rattle.table_file.specs.Form.{cut_of, blocks_of, items_from, index_bytes}
+use Rattle.table_file.specs.Form.{cut_of, items_from, index_bytes}
 use Rattle.table_file.specs.declared.put_fault.PutFault.{PutFault}
 use Rattle.table_file.specs.declared.put_fault.PutFault.TheVariants.{Fault, Limit, Memory}
 

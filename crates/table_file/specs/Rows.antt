@@ -1,7 +1,7 @@
 -- Worked values.
-use Rattle.std.specs.Prelude.{◌≡◌, ℕ, List, [], ◌∷◌, refl, length, take, drop}
+use Rattle.std.specs.Prelude.{◌≡◌, ℕ, [], ◌∷◌, refl, length, take, drop}
 use Rattle.peb_base.specs.Choice.{mixed}
-use Rattle.peb_base.specs.declared.change.Change.TheVariants.{Put, Delete}
+use Rattle.peb_base.specs.declared.change.Change.TheVariants.{Put}
 use Rattle.peb_base.specs.declared.entry.Entry.{Entry}
 use Rattle.block_form.specs.Parts.{head_bytes, parts_bytes}
 use Rattle.block_form.specs.Form.{entry_bytes, entries_bytes, restarts, block_bytes}

@@ -1,5 +1,5 @@
 -- What a writer keeps of the entries that were pushed.
-use Rattle.std.specs.Prelude.{◌≡◌, ℕ, ◌<◌, ◌≤◌, Bool, IsTrue, List, [], ◌++◌, length, map, Option, Some}
+use Rattle.std.specs.Prelude.{◌≡◌, ℕ, ◌<◌, ◌≤◌, Bool, IsTrue, List, ◌++◌, length, map, Option, Some}
 use Rattle.std.specs.List.{flat_map}
 use Rattle.peb_base.specs.Choice.{mixed}
 use Rattle.peb_base.specs.Entries.{AreSorted}

@@ -14,6 +14,8 @@ mod spelling;
 mod summary;
 mod table;
 mod table_writer;
+#[cfg(test)]
+mod tests;
 
 pub use index_item::IndexItem;
 pub use put_fault::PutFault;

@@ -51,7 +51,8 @@ pub struct TableWriter {
 fn begin_block(builder: &mut BlockBuilder)
     ensures { builder.new ≡ record builder.old { entries = [] } }
 {
-    if builder.is_empty() {
+    let empty = builder.is_empty();
+    if empty {
         return;
     }
     builder.finish();

@@ -1,4 +1,4 @@
-use Rattle.std.proofs.Common.{◌≡◌, ◌++◌, ◌∙◌, ap, length}
+use Rattle.std.proofs.Common.{◌++◌, ◌∙◌, ap, length}
 use Rattle.byteorder.specs.Endian.{big_bytes}
 use Rattle.table_file.proofs.Spelled.{five}
 use Rattle.table_file.proofs.spelling.put_item.Goals as goal

@@ -1,6 +1,5 @@
-use Rattle.std.proofs.Common.{◌≡◌, ◌∙◌, sym, ap, arith, length, [], List, ℕ, OnOk, rules}
-use Rattle.peb_base.specs.declared.entry.Entry.{Entry}
-use Rattle.table_file.proofs.Summing.{LastFits, last_fits}
+use Rattle.std.proofs.Common.{◌∙◌, sym, ap, arith, length, []}
+use Rattle.table_file.proofs.Summing.{last_fits}
 use Rattle.table_file.proofs.table_writer.close_block.Goals as goal
 
 pub latest-requires : goal.latest-requires

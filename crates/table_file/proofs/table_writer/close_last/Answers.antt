@@ -1,5 +1,4 @@
-use Rattle.std.proofs.Common.{◌≡◌, ◌<◌, length, sym, subst, arith, Err, rules, false}
-use Rattle.std.proofs.lemmas.Bool.Decides.{nat_tests}
+use Rattle.std.proofs.Common.{◌<◌, length, sym, subst, Err, rules}
 use Rattle.table_file.specs.Limits.{IsRefused}
 use Rattle.table_file.proofs.Cuts.{fault_last}
 use Rattle.table_file.proofs.table_writer.close_last.Goals as goal

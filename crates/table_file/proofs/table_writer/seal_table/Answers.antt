@@ -1,4 +1,4 @@
-use Rattle.std.proofs.Common.{◌≡◌, ◌+◌, ◌≤◌, ◌++◌, ◌∙◌, List, ℕ, Some, length, map, ap, sym, subst, refl, arith, rules, IsTrue}
+use Rattle.std.proofs.Common.{◌≡◌, ◌+◌, ◌++◌, ◌∙◌, length, ap, sym, refl, arith, rules, IsTrue}
 use Rattle.std.proofs.lemmas.List.{length-map}
 use Rattle.peb_base.specs.Choice.{mixed}
 use Rattle.peb_base.specs.Tables.{filter_bytes}

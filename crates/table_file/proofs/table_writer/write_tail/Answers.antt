@@ -1,4 +1,4 @@
-use Rattle.std.proofs.Common.{◌≡◌, ◌++◌, ◌∙◌, ap}
+use Rattle.std.proofs.Common.{◌++◌, ◌∙◌, ap}
 use Rattle.table_file.proofs.Spelled.{three}
 use Rattle.table_file.proofs.table_writer.write_tail.Goals as goal
 

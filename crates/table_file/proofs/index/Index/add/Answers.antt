@@ -1,7 +1,6 @@
-use Rattle.std.proofs.Common.{◌≡◌, ◌+◌, ◌∷◌, ◌++◌, [], List, ℕ, length, ap, sym, ◌∙◌, arith, rules, length-append}
-use Rattle.peb_base.specs.declared.entry.Entry.{Entry}
+use Rattle.std.proofs.Common.{◌≡◌, ◌+◌, ◌∷◌, ◌++◌, [], length, ap, sym, ◌∙◌, arith, rules, length-append}
 use Rattle.block_form.specs.Form.{block_bytes}
-use Rattle.table_file.specs.Form.{items_from, item_of, body_bytes, index_bytes}
+use Rattle.table_file.specs.Form.{item_of, body_bytes, index_bytes}
 use Rattle.table_file.specs.declared.index_item.IndexItem.{IndexItem}
 use Rattle.table_file.proofs.Indexing.{items-push, body-push, length-index-push}
 use Rattle.table_file.proofs.index.Index.add.Goals as goal

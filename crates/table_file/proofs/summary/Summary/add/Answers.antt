@@ -1,4 +1,4 @@
-use Rattle.std.proofs.Common.{◌≡◌, ◌+◌, ◌≤◌, ap, ◌∙◌, arith, length, [], refl}
+use Rattle.std.proofs.Common.{◌+◌, ap, arith, length, [], refl}
 use Rattle.peb_base.specs.EntryRefs.{entry_of}
 use Rattle.table_file.proofs.Summing.{last_is, front_sorted, raw-small, sums_on}
 use Rattle.table_file.proofs.summary.Summary.add.Goals as goal

@@ -1,11 +1,8 @@
-use Rattle.std.proofs.Common.{◌≡◌, ◌<◌, ◌∙◌, List, ℕ, Err, IsTrue, length, ap, sym, subst, refl, rules}
-use Rattle.peb_base.specs.declared.entry.Entry.{Entry}
-use Rattle.table_file.specs.Form.{Cut, cut_of, with_last, blocks_of, body_bytes}
+use Rattle.std.proofs.Common.{◌∙◌, Err, ap, sym, subst}
+use Rattle.table_file.specs.Form.{cut_of, with_last}
 use Rattle.table_file.specs.Gathers.{Gathers}
-use Rattle.table_file.specs.Indexes.{Indexes}
 use Rattle.table_file.specs.Limits.{blocks_fault, IsRefused}
 use Rattle.table_file.specs.Tables.{IsTableOf}
-use Rattle.table_file.specs.Writing.{Keeps, HasPushed}
 use Rattle.table_file.proofs.Cuts.{ends_with, no_limit}
 use Rattle.table_file.proofs.table_writer.TableWriter.finish.Goals as goal
 

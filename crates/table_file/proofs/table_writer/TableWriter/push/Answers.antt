@@ -1,4 +1,4 @@
-use Rattle.std.proofs.Common.{◌≡◌, ◌<◌, ◌≤◌, ◌+◌, ◌∷◌, ◌++◌, ◌∙◌, [], List, ℕ, length, map, ap, sym, subst, refl, Err, arith, rules, true, false, IsTrue}
+use Rattle.std.proofs.Common.{◌≡◌, ◌<◌, ◌≤◌, ◌∷◌, ◌++◌, ◌∙◌, [], length, ap, sym, subst, Err, arith, rules, true}
 use Rattle.std.proofs.lemmas.List.{length-map}
 use Rattle.peb_base.specs.EntryRefs.{entry_of}
 use Rattle.peb_base.specs.Choice.{mixed}
@@ -7,11 +7,10 @@ use Rattle.peb_base.specs.declared.entry.Entry.{Entry}
 use Rattle.block_form.specs.Building.{Building}
 use Rattle.block_form.specs.Form.{block_bytes}
 use Rattle.table_file.specs.Form.{Cut, cut_of, last_number}
-use Rattle.table_file.specs.Indexes.{Indexes}
-use Rattle.table_file.specs.Limits.{index_fault, push_fault, IsRefused}
+use Rattle.table_file.specs.Limits.{IsRefused}
 use Rattle.table_file.specs.Sums.{Sums}
-use Rattle.table_file.specs.Writing.{Keeps, HasPushed}
-use Rattle.table_file.proofs.Cuts.{sorted_begun, keeps_on, keeps_closed, cut_open, cut_closed, fault_closed, fault_open, length-none}
+use Rattle.table_file.specs.Writing.{Keeps}
+use Rattle.table_file.proofs.Cuts.{sorted_begun, keeps_on, keeps_closed, cut_closed, fault_closed, length-none}
 use Rattle.table_file.proofs.Summing.{last_key-push, last_number-push}
 use Rattle.table_file.proofs.table_writer.TableWriter.push.Goals as goal
 

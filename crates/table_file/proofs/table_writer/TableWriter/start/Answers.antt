@@ -1,8 +1,6 @@
-use Rattle.std.proofs.Common.{◌≡◌, ◌<◌, ap, refl, arith, ℕ, List, rules}
-use Rattle.peb_base.specs.declared.entry.Entry.{Entry}
+use Rattle.std.proofs.Common.{◌<◌, ap, refl, arith, rules}
 use Rattle.block_form.specs.Building.{Building}
 use Rattle.block_form.specs.Form.{block_bytes, restarts, entries_bytes}
-use Rattle.table_file.specs.Writing.{Keeps, HasPushed}
 use Rattle.table_file.proofs.table_writer.TableWriter.start.Goals as goal
 
 pub returns-clause-begun : goal.returns-clause-begun
