@@ -1,0 +1,4 @@
+pub mod Cuts
+pub mod Indexing
+pub mod Spelled
+pub mod Summing

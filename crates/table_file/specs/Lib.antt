@@ -1,0 +1,9 @@
+pub mod Form
+pub mod Gathers
+pub mod Indexes
+pub mod Items
+pub mod Limits
+pub mod Rows
+pub mod Sums
+pub mod Tables
+pub mod Writing

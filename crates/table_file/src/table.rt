@@ -1,0 +1,101 @@
+//! Sorted tables.
+
+ghost use Rattle.std.specs.Prelude.{◌≡◌, ◌<◌, length, true, IsTrue, slice_get, Some};
+ghost use Rattle.peb_base.specs.Choice as choice;
+ghost use Rattle.peb_base.specs.Entries.{comes_before};
+ghost use Rattle.bloom.specs.Filter.{may_hold};
+ghost use Rattle.table_file.specs.Items.{block_for};
+
+use crate::index_item::IndexItem;
+use bloom::Filter;
+use disk_model::TableHandle;
+use peb_base::{Number, TableRow};
+use std::cmp::Ordering;
+
+/// A sorted table (SSTable): its row, the handle of its file, its index and its filter.
+#[derive(Drop)]
+pub struct Table<F: TableHandle> {
+    pub(crate) row: TableRow,
+    pub(crate) file: F,
+    pub(crate) items: Vec<IndexItem>,
+    pub(crate) filter: Filter,
+}
+
+/// Whether the first key and number come before the second, in entry order.
+#[tactic(auto, using(peb_base::specs::EntryLaws::comes_before_by))]
+fn is_before(key: &[u8], number: u64, later: &[u8], lower: u64) -> bool
+    ensures { result ≡ comes_before key.now number later.now lower }
+{
+    match key.cmp(&later) {
+        Ordering::Less => true,
+        Ordering::Equal => lower < number,
+        Ordering::Greater => false,
+    }
+}
+
+/// The place and the length of the first of these blocks that doesn't end before this key and number.
+fn block_among(items: &[IndexItem], key: &[u8], number: u64) -> Option<(u64, u32)>
+    ensures { result ≡ block_for key.now number items.now }
+{
+    for item in items {
+        if !is_before(item.key.bytes(), item.number.packed(), key, number) {
+            return Some((item.place, item.len));
+        }
+    }
+    None
+}
+
+impl<F: TableHandle> Table<F> {
+    /// The table's row.
+    pub fn row(&self) -> &TableRow
+        ensures { result.now ≡ self.now.row }
+    {
+        &self.row
+    }
+
+    /// The handle of the table's file.
+    pub fn file(&self) -> &F
+        ensures { result.now ≡ self.now.file }
+    {
+        &self.file
+    }
+
+    /// The number of blocks, which is that of index items.
+    pub fn blocks(&self) -> usize
+        ensures { result ≡ length self.now.items.items }
+    {
+        self.items.len()
+    }
+
+    /// An index item by its index, below the number of blocks: the block's place and length in bytes, and the key and the
+    /// number of its last entry.
+    pub fn item(&self, index: usize) -> (u64, u32, &[u8], Number)
+        requires { index < length self.now.items.items }
+        ensures { slice_get self.now.items.items index ≡ Some (record { place = result.0; len = result.1; key = result.2.now; number = result.3 }) }
+    {
+        let item = &self.items[index];
+        (item.place, item.len, item.key.bytes(), item.number)
+    }
+
+    /// The bytes of the filter.
+    pub fn filter(&self) -> &[u8]
+        ensures { result.now ≡ self.now.filter }
+    {
+        self.filter.bytes()
+    }
+
+    /// Whether the table may hold an entry of the key: false only where its filter denies it.
+    pub fn may_hold(&self, key: &[u8]) -> bool
+        ensures { result ≡ may_hold self.now.filter (choice.mixed key.now) }
+    {
+        self.filter.may_hold(key)
+    }
+
+    /// The place and the length, in bytes, of the block that has the first entry at or after this key and number; None
+    /// exactly where every entry is before.
+    pub fn block_of(&self, key: &[u8], number: Number) -> Option<(u64, u32)>
+        ensures { result ≡ block_for key.now number self.now.items.items }
+    {
+        block_among(&self.items, key, number.packed())
+    }
+}
