@@ -19,6 +19,7 @@ pub body-push : (blocks : List (List Entry)) (es : List Entry) → body_bytes (b
 body-push blocks es = flat_map-append block_bytes blocks (es ∷ []) ∙ ap (λ l. body_bytes blocks ++ l) (append-nil (block_bytes es))
 
 pub length-item : (item : IndexItem) → length (item_bytes item) ≡ 22 + length item.key
+unfolding item_bytes
 length-item item = omega (arith, length-append {A = ℕ})
 
 -- the length of the index with one item more

@@ -1,4 +1,7 @@
 pub mod Cuts
+pub mod Footers
+pub mod IndexWalk
 pub mod Indexing
+pub mod Openings
 pub mod Spelled
 pub mod Summing

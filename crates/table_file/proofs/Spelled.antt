@@ -11,7 +11,7 @@ five old n1 n2 n3 n4 n5 a b c d e p1 p2 p3 p4 p5 =
 pub three : (old n1 n2 n3 a b c : List ℕ) → n1 ≡ old ++ a → n2 ≡ n1 ++ b → n3 ≡ n2 ++ c → n3 ≡ old ++ (a ++ (b ++ c))
 three old n1 n2 n3 a b c p1 p2 p3 = p3 ∙ ap (λ l. l ++ c) (p2 ∙ ap (λ l. l ++ b) p1) ∙ simp append_assoc
 
-length-footer : (f : Footer) → length (footer_bytes f) ≡ 48
+pub length-footer : (f : Footer) → length (footer_bytes f) ≡ 48
 unfolding footer_bytes
 length-footer f = refl
 

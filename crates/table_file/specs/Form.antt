@@ -57,7 +57,7 @@ items_from place [] = []
 items_from place (es ∷ blocks) = item_of place es ∷ items_from (place + length (block_bytes es)) blocks
 
 -- an item: place, length, the last key behind its length, the last number
-abbrev pub item_bytes : IndexItem → List ℕ
+unfoldable pub item_bytes : IndexItem → List ℕ
 item_bytes item = big_bytes 8 item.place ++ (big_bytes 4 item.len ++ (big_bytes 2 (length item.key) ++ (item.key ++ big_bytes 8 item.number)))
 
 -- the index: the number of items, and they

@@ -1,8 +1,10 @@
+pub mod Damages
 pub mod Form
 pub mod Gathers
 pub mod Indexes
 pub mod Items
 pub mod Limits
+pub mod Opening
 pub mod Rows
 pub mod Sums
 pub mod Tables

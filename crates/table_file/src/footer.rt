@@ -1,7 +1,12 @@
 //! The footer of a table.
 
-ghost use Rattle.std.specs.Prelude.{◌≡◌};
+ghost use Rattle.std.specs.Prelude.{◌≡◌, ◌≢◌, length, IfSome, IfNone};
 ghost use Rattle.table_file.specs.Form.{footer_bytes};
+ghost use Rattle.table_file.specs.Opening.{IsFooterOf};
+ghost use Rattle.table_file.specs.declared.footer.Footer.{Footer};
+
+use byteorder::{BigEndian, ByteOrder};
+use peb_base::TableRow;
 
 /// What the last 48 bytes of a table tell.
 #[derive(Clone, Copy, Debug, PartialEq, Eq)]
@@ -35,4 +40,38 @@ pub fn footer_array(footer: Footer) -> [u8; 48]
         m[2], m[3], e[0], e[1], e[2], e[3], e[4], e[5], e[6], e[7], b'F', b'L', b'S', b'M', b'T',
         b'A', b'B', b'1',
     ]
+}
+
+/// The footer that agrees with the row, if the last 48 bytes of a file are one.
+pub fn footer_for(row: &TableRow, bytes: &[u8]) -> Option<Footer>
+    requires { length bytes.now ≡ 48 }
+    ensures agrees { IfSome result (λ footer. IsFooterOf row.now footer) }
+    ensures spelled { IfSome result (λ footer. bytes.now ≡ footer_bytes footer) }
+    ensures none { IfNone result ((footer : Footer) → IsFooterOf row.now footer → bytes.now ≢ footer_bytes footer) }
+{
+    if row.entries > 1_717_986_918 {
+        return None;
+    }
+    let filter_len = ((row.entries * 10).max(64) + 7) / 8;
+    if row.bytes < 48 + filter_len {
+        return None;
+    }
+    let filter = row.bytes - 48 - filter_len;
+    let index = BigEndian::read_u64(&bytes[8..]);
+    if index > filter || filter - index > 2_147_483_648 {
+        return None;
+    }
+    let footer = Footer {
+        number: row.number,
+        index,
+        index_len: (filter - index) as u32,
+        filter,
+        filter_len: filter_len as u32,
+        entries: row.entries,
+    };
+    let text = footer_array(footer);
+    if text[..] != bytes[..] {
+        return None;
+    }
+    Some(footer)
 }

@@ -8,11 +8,16 @@
 mod filling;
 mod footer;
 mod index;
+mod index_fault;
 mod index_item;
+mod index_reading;
+mod item_fields;
+mod opening;
 mod put_fault;
 mod spelling;
 mod summary;
 mod table;
+mod table_fault;
 mod table_writer;
 #[cfg(test)]
 mod tests;
@@ -20,4 +25,5 @@ mod tests;
 pub use index_item::IndexItem;
 pub use put_fault::PutFault;
 pub use table::Table;
+pub use table_fault::TableFault;
 pub use table_writer::TableWriter;

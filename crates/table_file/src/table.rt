@@ -23,7 +23,7 @@ pub struct Table<F: TableHandle> {
 
 /// Whether the first key and number come before the second, in entry order.
 #[tactic(auto, using(peb_base::specs::EntryLaws::comes_before_by))]
-fn is_before(key: &[u8], number: u64, later: &[u8], lower: u64) -> bool
+pub(crate) fn is_before(key: &[u8], number: u64, later: &[u8], lower: u64) -> bool
     ensures { result ≡ comes_before key.now number later.now lower }
 {
     match key.cmp(&later) {

@@ -1,9 +1,9 @@
 //! Tables against bytes from outside.
 
-use crate::{PutFault, Table, TableWriter};
+use crate::{PutFault, Table, TableFault, TableWriter};
 use block_form::Block;
 use disk_model::{Devices, Maker, MemDevices, Plans};
-use peb_base::{ChangeRef, EntryRef, Number, Options, Profile};
+use peb_base::{ChangeRef, EntryRef, Key, Number, Options, Profile, TableRow};
 use std::alloc::Global;
 use std::test::Fail;
 
@@ -89,5 +89,71 @@ fn a_full_block_is_closed(rt: HostRuntime) -> Result<(), Fail> {
     assert_eq!(rt; table.block_of(b"b", Number::new(0, 0)), Some((267, 28)));
     assert_eq!(rt; table.block_of(b"q", Number::new(0, 0)), None);
     assert_eq!(rt; Block::read(&bytes[267..295])?.len(), 1);
+    Ok(())
+}
+
+/// What opening tells of a file.
+#[derive(Clone, Copy, Debug, PartialEq, Eq)]
+enum Told {
+    Opened(usize),
+    Damaged(u64),
+    Failed,
+}
+
+/// Opens bytes by the row of the table of one put.
+fn opened(alloc: Global, bytes: &[u8]) -> Result<Told, Fail> {
+    let row = TableRow {
+        number: ONE,
+        level: 2,
+        tier: 0,
+        smallest: Key::new(alloc, b"a")?,
+        largest: Key::new(alloc, b"a")?,
+        entries: 1,
+        raw: 2,
+        first: Number::new(1, 1),
+        last: Number::new(1, 1),
+        bytes: 111,
+    };
+    let devices = MemDevices::new(alloc, Plans::empty(alloc))?;
+    let mut devices = devices.with_table(ONE, bytes)?;
+    let mut port = devices.port()?;
+    let told = match Table::open(alloc, &mut port, row) {
+        Ok(table) => Told::Opened(table.blocks()),
+        Err(TableFault::Damaged { at, .. }) => Told::Damaged(at),
+        Err(_) => Told::Failed,
+    };
+    devices.back_port(port);
+    Ok(told)
+}
+
+#[test]
+fn a_table_is_opened_where_footer_index_and_filter_agree(rt: HostRuntime) -> Result<(), Fail> {
+    let alloc = rt.alloc();
+    assert_eq!(rt; opened(alloc, &TABLE)?, Told::Opened(1));
+    assert_eq!(rt; opened(alloc, &TABLE[..110])?, Told::Damaged(110));
+    // A block and the filter's bits, the count of items, a place, a length, a key's length, a number; then the footer's parts.
+    for (at, value, want) in [
+        (13, 2, Told::Opened(1)),
+        (60, 1, Told::Opened(1)),
+        (31, 2, Told::Damaged(28)),
+        (39, 1, Told::Damaged(28)),
+        (43, 27, Told::Damaged(28)),
+        (45, 2, Told::Damaged(28)),
+        (47, 128, Told::Damaged(28)),
+        (70, 2, Told::Damaged(63)),
+        (78, 27, Told::Damaged(63)),
+        (82, 26, Told::Damaged(63)),
+        (90, 54, Told::Damaged(63)),
+        (94, 9, Told::Damaged(63)),
+        (102, 2, Told::Damaged(63)),
+        (110, b'2', Told::Damaged(63)),
+    ] {
+        let mut bytes = TABLE;
+        *bytes.get_mut(at).ok_or("past the end")? = value;
+        assert_eq!(rt; opened(alloc, &bytes)?, want, "byte {at}");
+    }
+    let mut longer = Vec::from_slice(alloc, &TABLE)?;
+    longer.push(0)?;
+    assert_eq!(rt; opened(alloc, &longer)?, Told::Damaged(111));
     Ok(())
 }

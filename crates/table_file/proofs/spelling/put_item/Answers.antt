@@ -1,9 +1,11 @@
 use Rattle.std.proofs.Common.{◌++◌, ◌∙◌, ap, length}
 use Rattle.byteorder.specs.Endian.{big_bytes}
+use Rattle.table_file.specs.Form.{item_bytes}
 use Rattle.table_file.proofs.Spelled.{five}
 use Rattle.table_file.proofs.spelling.put_item.Goals as goal
 
 pub returns : goal.returns
+unfolding item_bytes
 returns c =
     let item = c.args.item.now in
     five c.args.bytes.now.items _ _ _ _ _ (big_bytes 8 item.place) (big_bytes 4 item.len) (big_bytes 2 (length item.key)) item.key (big_bytes 8 item.number)
