@@ -1,5 +1,5 @@
 -- One entry more at the end of a block that is built, and its end.
-use Rattle.std.proofs.Common.{◌≡◌, ℕ, suc, ◌+◌, ◌/◌, ◌<◌, ◌≤◌, Bool, true, false, List, [], ◌∷◌, ◌++◌, length, drop, refl, sym, ap, ◌∙◌, subst, arith, append_assoc, length-append}
+use Rattle.std.proofs.Common.{◌≡◌, ℕ, suc, ◌+◌, ◌*◌, ◌/◌, ◌<◌, ◌≤◌, Bool, true, false, List, [], ◌∷◌, ◌++◌, length, drop, refl, sym, ap, ◌∙◌, subst, arith, append_assoc, length-append}
 use Rattle.std.specs.Prelude.{if◌then◌else◌}
 use Rattle.std.proofs.lemmas.List.{append-nil}
 use Rattle.byteorder.specs.Endian.{big_bytes}
@@ -151,3 +151,29 @@ built_block full out places count key es n bytes is some number spelled =
           spelled ∙ (λ i. (is.text i ++ is.placed i) ++ big_bytes 4 (counted i))
           ∙ ap (λ l. 0 ∷ l) (append_assoc e (places_bytes r) (big_bytes 4 (length r)));
     }
+
+length-block : (es : List Entry) → length (block_bytes es) ≡ 5 + length (entries_bytes 0 [] es) + 4 * length (block_restarts es)
+unfolding block_bytes
+length-block es =
+    let r = block_restarts es in
+    let e = entries_bytes 0 [] es in
+    omega (arith, length-append e (places_bytes r ++ big_bytes 4 (length r)), length-append (places_bytes r) (big_bytes 4 (length r)), length-bytes_high_first 4 (length r), length-places r)
+
+pub block_grows : (es : List Entry) (e : Entry) → IsEntry e → length (block_bytes (es ++ e ∷ [])) ≤ length (block_bytes es) + 33813
+block_grows es e is =
+    let here = if is_restart (0 + length es) then (1 + length (entries_bytes 0 [] es)) ∷ [] else [] in
+    omega (
+      arith,
+      length-block es,
+      length-block (es ++ e ∷ []),
+      ap length (entries-push 0 [] es e),
+      length-append (entries_bytes 0 [] es) (entry_bytes (0 + length es) (key_after [] es) e),
+      entry-small (0 + length es) (key_after [] es) e is,
+      ap length (restarts-push 0 1 [] es e),
+      length-append (block_restarts es) here,
+      few (is_restart (0 + length es)),
+    )
+  where
+    few : (b : Bool) → length (if b then (1 + length (entries_bytes 0 [] es)) ∷ [] else []) ≤ 1
+    few true = omega arith
+    few false = omega arith

@@ -119,13 +119,13 @@ fields_fit place before above end item small within is =
 -- what stands at the front of the bytes of some items
 pub front : (place : ℕ) (before : Bytes) (above end : ℕ) (more : List IndexItem) (rest : List ℕ) (found : IndexItem) (behind : List ℕ) → end < 2 ^ 64 → Fields found → rest ≡ item_bytes found ++ behind
     → AreItems place before above end more → rest ≡ flat_map item_bytes more
-    → (later : List IndexItem) × IsItem place before above found × AreItems (place + found.len) found.key found.number end later × (behind ≡ flat_map item_bytes later) × (length more ≡ suc (length later))
+    → (later : List IndexItem) × IsItem place before above found × AreItems (place + found.len) found.key found.number end later × (behind ≡ flat_map item_bytes later) × (more ≡ found ∷ later)
 front place before above end [] rest found behind small fits spelled are is = absurd (omega (arith, ap length (sym spelled ∙ is), length-append (item_bytes found) behind, length-item found))
 front place before above end (item ∷ later) rest found behind small fits spelled are is =
     let bound : place ≤ end = are_bound place before above end (item ∷ later) are in
     let own = fields_fit place before above end item small bound are.0 in
     let one = one_item item found (flat_map item_bytes later) behind own.place fits.place own.len fits.len own.key fits.key own.number fits.number (sym is ∙ spelled) in
-    (later, subst (IsItem place before above) one.0 are.0, subst (λ (i : IndexItem). AreItems (place + i.len) i.key i.number end later) one.0 are.1, sym one.1, refl)
+    (later, subst (IsItem place before above) one.0 are.0, subst (λ (i : IndexItem). AreItems (place + i.len) i.key i.number end later) one.0 are.1, sym one.1, λ i. one.0 i ∷ later)
 
 pub walk_on : (place next : ℕ) (before key : Bytes) (above number end : ℕ) (items : List IndexItem) (rest behind body : List ℕ) (found : IndexItem) → end < 2 ^ 64 → Walk place before above end items rest body
     → IsItem place before above found → rest ≡ item_bytes found ++ behind → key ≡ found.key → number ≡ found.number → next ≡ place + found.len → next ≤ end → Walk next key number end (items ++ found ∷ []) behind body
@@ -142,7 +142,7 @@ walk_on place next before key above number end items rest behind body found smal
       down = λ all are all_is.
           let w = walk.down all are all_is in
           let f = front place before above end w.0 rest found behind small fits spelled w.1 w.2 in
-          (f.0, f.2, f.3, omega (arith, w.3, f.4, length-append items (found ∷ [])));
+          (f.0, f.2, f.3, omega (arith, w.3, ap length f.4, length-append items (found ∷ [])));
       within = omega (arith, within, is_next);
     })
 
@@ -193,3 +193,12 @@ index_parts bytes items short is =
 pub index_again : (bytes : List ℕ) (items : List IndexItem) → 4 ≤ length bytes → Fit bytes → big_number 4 bytes ≡ length items → drop 4 bytes ≡ flat_map item_bytes items → bytes ≡ index_bytes items
 index_again bytes items long fit count is =
     sym (take-append-drop 4 bytes) ∙ (λ i. (sym (again_4 bytes long fit) ∙ ap (big_bytes 4) count) i ++ is i)
+
+-- bytes are those of one list of items at most
+pub one_items : (place : ℕ) (before : Bytes) (above end : ℕ) (a b : List IndexItem) → end < 2 ^ 64 → AreItems place before above end a → AreItems place before above end b → flat_map item_bytes a ≡ flat_map item_bytes b → a ≡ b
+one_items place before above end [] [] small are_a are_b same = refl
+one_items place before above end [] (j ∷ b) small are_a are_b same = absurd (omega (arith, ap length same, length-append (item_bytes j) (flat_map item_bytes b), length-item j))
+one_items place before above end (i ∷ a) b small are_a are_b same =
+    let bound : place ≤ end = are_bound place before above end (i ∷ a) are_a in
+    let f = front place before above end b (flat_map item_bytes (i ∷ a)) i (flat_map item_bytes a) small (fields_fit place before above end i small bound are_a.0) refl are_b same in
+    ap (λ l. i ∷ l) (one_items (place + i.len) i.key i.number end a f.0 small are_a.1 f.2 f.3) ∙ sym f.4

@@ -5,3 +5,4 @@ pub mod Indexing
 pub mod Openings
 pub mod Spelled
 pub mod Summing
+pub mod Written

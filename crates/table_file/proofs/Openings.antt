@@ -1,11 +1,12 @@
 -- The parts of a table's file.
-use Rattle.std.proofs.Common.{◌≡◌, ℕ, ◌+◌, ◌-◌, ◌<◌, ◌≤◌, ◌^◌, List, ◌++◌, length, take, drop, sym, ap, ◌∙◌, ◌⊎◌, inl, inr, refl, arith, subst, append_assoc, length-append, take-append-drop, length-drop}
+use Rattle.std.proofs.Common.{◌≡◌, [], ℕ, ◌+◌, ◌-◌, ◌<◌, ◌≤◌, ◌^◌, List, ◌++◌, length, take, drop, sym, ap, ◌∙◌, ◌⊎◌, inl, inr, refl, arith, subst, append_assoc, length-append, take-append-drop, length-drop}
 use Rattle.std.proofs.lemmas.List.{take_at, drop_at, drop-drop, take_all, length-take-le}
 use Rattle.std.proofs.lemmas.Bool.{cases_lt}
 use Rattle.byteorder.specs.Endian.{big_number}
 use Rattle.peb_base.specs.declared.table_row.TableRow.{TableRow}
 use Rattle.table_file.specs.Form.{footer_bytes, index_bytes}
-use Rattle.table_file.specs.Opening.{IsIndex, IsFooterOf, OpensAs}
+use Rattle.table_file.specs.Opening.{AreItems, IsIndex, IsFooterOf, OpensAs}
+use Rattle.table_file.proofs.IndexWalk.{one_items}
 use Rattle.table_file.specs.declared.footer.Footer.{Footer}
 use Rattle.table_file.specs.declared.index_item.IndexItem.{IndexItem}
 use Rattle.table_file.proofs.Spelled.{length-footer}
@@ -82,3 +83,16 @@ pub tail_long : (row : TableRow) (items : List IndexItem) (filter bytes : List �
 tail_long row items filter bytes o =
     let parts = parts_of row items filter bytes o in
     take_all 49 (drop (row.bytes - 48) bytes) (omega (arith, ap length parts.footer, length-footer o.footer)) ∙ parts.footer
+
+-- bytes are a table of a row with one index and one filter at most
+pub one_opening : (row : TableRow) (a b : List IndexItem) (f g bytes : List ℕ) → row.bytes < 2 ^ 64 → OpensAs row a f bytes → OpensAs row b g bytes → (a ≡ b) × (f ≡ g)
+one_opening row a b f g bytes small oa ob =
+    let pa = parts_of row a f bytes oa in
+    let pb = parts_of row b g bytes ob in
+    let same = one_footer row oa.footer ob.footer small oa.agrees ob.agrees (sym pa.footer ∙ pb.footer) in
+    let text : index_bytes a ≡ index_bytes b = sym pa.index ∙ ap (λ (f : Footer). take f.index_len (drop f.index bytes)) same ∙ pb.index in
+    let end : length oa.body ≡ length ob.body = oa.body_len ∙ ap (λ (f : Footer). f.index) same ∙ sym ob.body_len in
+    let within : length oa.body < 2 ^ 64 = omega (arith, oa.body_len, oa.agrees.adjoin, oa.agrees.end, small) in (
+      one_items 0 [] 0 (length oa.body) a b within oa.index.each (subst (λ n. AreItems 0 [] 0 n b) (sym end) ob.index.each) (ap (drop 4) text),
+      sym pa.filter_at ∙ ap (λ (f : Footer). take f.filter_len (drop f.filter bytes)) same ∙ pb.filter_at,
+    )

@@ -12,6 +12,7 @@ mod index_fault;
 mod index_item;
 mod index_reading;
 mod item_fields;
+mod laws;
 mod opening;
 mod put_fault;
 mod spelling;
@@ -23,6 +24,7 @@ mod table_writer;
 mod tests;
 
 pub use index_item::IndexItem;
+pub use laws::{one_opening, written_opens};
 pub use put_fault::PutFault;
 pub use table::Table;
 pub use table_fault::TableFault;

@@ -1,15 +1,17 @@
 //! Sorted tables.
 
-ghost use Rattle.std.specs.Prelude.{◌≡◌, ◌<◌, length, true, IsTrue, slice_get, Some};
+ghost use Rattle.std.specs.Prelude.{◌≡◌, ◌<◌, List, length, IsTrue, slice_get, Some};
 ghost use Rattle.peb_base.specs.Choice as choice;
 ghost use Rattle.peb_base.specs.Entries.{comes_before};
+ghost use Rattle.peb_base.specs.declared.entry.Entry.{Entry};
 ghost use Rattle.bloom.specs.Filter.{may_hold};
 ghost use Rattle.table_file.specs.Items.{block_for};
+ghost use Rattle.table_file.specs.Tables.{IsTableOf};
 
 use crate::index_item::IndexItem;
 use bloom::Filter;
 use disk_model::TableHandle;
-use peb_base::{Number, TableRow};
+use peb_base::{HasRow, Number, TableRow};
 use std::cmp::Ordering;
 
 /// A sorted table (SSTable): its row, the handle of its file, its index and its filter.
@@ -97,5 +99,17 @@ impl<F: TableHandle> Table<F> {
         ensures { result ≡ block_for key.now number self.now.items.items }
     {
         block_among(&self.items, key, number.packed())
+    }
+}
+
+impl<F: TableHandle> HasRow for Table<F> {
+    ghost the_row = { λ table. table.row };
+
+    ghost holds = { λ table es. IsTrue F.tells × ((blocks : List (List Entry)) × IsTableOf F.tells table.row.number table.row.level (F.number table.file) (F.bytes table.file) table.row table.items.items table.filter blocks es) };
+
+    ghost agrees = { λ table es held. (held.1.1.sorted, held.1.1.row_is) };
+
+    fn row(&self) -> &TableRow {
+        &self.row
     }
 }

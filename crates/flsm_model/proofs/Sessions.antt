@@ -1,0 +1,407 @@
+-- Numbers within a session: of tables, of logs and of what is frozen.
+use Rattle.std.proofs.Common.{◌≡◌, ℕ, ◌+◌, ◌-◌, ◌*◌, ◌^◌, ◌<◌, ◌≤◌, ◌≢◌, Bool, true, false, cond, ◌&&◌, ◌||◌, List, [], ◌∷◌, ◌++◌, map, ◌⊎◌, inl, inr, refl, sym, ◌∙◌, ap, subst, arith}
+use Rattle.std.specs.Prelude.{nat_lt, nat_le, ◌==◌, filter, Option, Some, None, option_map, ⊤}
+use Rattle.std.specs.List.{list_all}
+use Rattle.std.proofs.lemmas.Bool.{and_parts, or_cases, eqb-true, ltb-true, leb-true, false≢true}
+use Rattle.peb_base.specs.Batches.{last_number}
+use Rattle.peb_base.specs.declared.table_row.TableRow.{TableRow}
+use Rattle.peb_base.specs.Profiles.{Column}
+use Rattle.flsm_model.specs.declared.edit.Edit.{Edit}
+use Rattle.flsm_model.specs.declared.edit.Edit.TheVariants.{Open, Flush, Move, Cut, Merge}
+use Rattle.flsm_model.specs.declared.job_kind.JobKind.{JobKind}
+use Rattle.flsm_model.specs.declared.job_kind.JobKind.TheVariants.{Flush as FlushJob, Move as MoveJob, Cut as CutJob, Merge as MergeJob}
+use Rattle.flsm_model.specs.declared.job.Job.{Job}
+use Rattle.flsm_model.specs.Shape.{Shape, grown, has_number, outputs_of}
+use Rattle.flsm_model.specs.Events.{Event, Opened, Commit, Synced, Look, Hold, Release, Freeze, Begin, Done, Short, JournalFault, Stop, Session, Standing, Running}
+use Rattle.flsm_model.specs.Steps.{flushed, without_job, step}
+use Rattle.flsm_model.specs.Jobs.{numbers_needed, IsLawful}
+use Rattle.flsm_model.specs.Outcomes.{IsEditOf, IsOutcome}
+use Rattle.flsm_model.specs.Legal.{Allowed}
+use Rattle.flsm_model.specs.TrueRecord.{IsIn}
+use Rattle.flsm_model.proofs.Places.{same_session, not_open}
+use Rattle.flsm_model.proofs.Histories.{job_in, within}
+use Rattle.flsm_model.proofs.MapLaw.{last_grows}
+use Rattle.flsm_model.proofs.Truth.{All}
+
+-- ---- blocks of table numbers: each begins where the one before it ends
+
+abbrev pub Blocks : ℕ → List Running → Type 0
+Blocks top [] = ⊤
+Blocks top (r ∷ rs) = (r.1.numbers + numbers_needed r.1 ≤ top) × Blocks r.1.numbers rs
+
+blocks_up : (a b : ℕ) (rs : List Running) → a ≤ b → Blocks a rs → Blocks b rs
+blocks_up a b [] l h = tt
+blocks_up a b (r ∷ rs) l h = (omega (arith, h.0), h.1)
+
+pub blocks_filter : (p : Running → Bool) (top : ℕ) (rs : List Running) → Blocks top rs → Blocks top (filter p rs)
+blocks_filter p top [] h = tt
+blocks_filter p top (r ∷ rs) h = by (p r) (blocks_filter p r.1.numbers rs h.1)
+  where
+    by : (b : Bool) → Blocks r.1.numbers (filter p rs) → Blocks top (cond b (r ∷ filter p rs) (filter p rs))
+    by true x = (h.0, x)
+    by false x = blocks_up r.1.numbers top (filter p rs) (omega (arith, h.0)) x
+
+pub blocks_below : (top : ℕ) (rs : List Running) (r : Running) → Blocks top rs → IsIn r rs → r.1.numbers + numbers_needed r.1 ≤ top
+blocks_below top [] r h i = absurd i
+blocks_below top (q ∷ rs) r h i = elim i [
+  | inl s ↦ subst (λ (z : Running). z.1.numbers + numbers_needed z.1 ≤ top) (sym s) h.0
+  | inr m ↦ omega (arith, h.0, blocks_below q.1.numbers rs r h.1 m)
+]
+
+-- one's numbers end before the other's begin
+abbrev pub NumbersApart : Job → Job → Type 0
+NumbersApart j k = (j.numbers + numbers_needed j ≤ k.numbers) ⊎ (k.numbers + numbers_needed k ≤ j.numbers)
+
+pub blocks_apart : (top : ℕ) (rs : List Running) (r s : Running) → Blocks top rs → IsIn r rs → IsIn s rs → r.0 ≢ s.0 → NumbersApart r.1 s.1
+blocks_apart top [] r s h i k ne = absurd i
+blocks_apart top (q ∷ rs) r s h i k ne = elim i [
+  | inl a ↦ elim k [
+    | inl b ↦ absurd (ne (ap (λ (x : Running). x.0) (a ∙ sym b)))
+    | inr b ↦ inr (subst (λ (x : Running). s.1.numbers + numbers_needed s.1 ≤ x.1.numbers) (sym a) (blocks_below q.1.numbers rs s h.1 b))
+  ]
+  | inr a ↦ elim k [
+    | inl b ↦ inl (subst (λ (x : Running). r.1.numbers + numbers_needed r.1 ≤ x.1.numbers) (sym b) (blocks_below q.1.numbers rs r h.1 a))
+    | inr b ↦ blocks_apart q.1.numbers rs r s h.1 a b ne
+  ]
+]
+
+abbrev pub FaultBlocks : ℕ → Option (List Running) → Type 0
+FaultBlocks top None = ⊤
+FaultBlocks top (Some rs) = Blocks top rs
+
+-- ---- what an outcome changes of the numbers
+
+pub data Turn (s : Shape) (n : Session) (e : Edit) : Type 0 where
+  Stays : ((grown s e).to ≡ s.to) → ((grown s e).log ≡ s.log) → ((f : Option ℕ) → flushed e f ≡ f) → Turn s n e
+  Flushes : (k : ℕ) → n.frozen ≡ Some k → ((grown s e).to ≡ k) → ((grown s e).log ≡ n.log + n.freezes) → ((f : Option ℕ) → flushed e f ≡ None) → Turn s n e
+
+pub turn : (s : Shape) (n : Session) (j : Job) (e : Edit) → IsEditOf j.kind n j e → Turn s n e
+turn s n j e same = by j.kind e same
+  where
+    by : (a : JobKind) (e : Edit) → IsEditOf a n j e → Turn s n e
+    by FlushJob (Flush row from to log chosen) q = Flushes to q.0 refl q.1 (λ f. refl)
+    by FlushJob (Open session log) q = absurd q
+    by FlushJob (Move level fl inputs outputs) q = absurd q
+    by FlushJob (Cut level keys inputs outputs) q = absurd q
+    by FlushJob (Merge fl whole inputs outputs) q = absurd q
+    by MoveJob (Move level fl inputs outputs) q = Stays refl refl (λ f. refl)
+    by MoveJob (Open session log) q = absurd q
+    by MoveJob (Flush row from to log chosen) q = absurd q
+    by MoveJob (Cut level keys inputs outputs) q = absurd q
+    by MoveJob (Merge fl whole inputs outputs) q = absurd q
+    by CutJob (Cut level keys inputs outputs) q = Stays refl refl (λ f. refl)
+    by CutJob (Open session log) q = absurd q
+    by CutJob (Flush row from to log chosen) q = absurd q
+    by CutJob (Move level fl inputs outputs) q = absurd q
+    by CutJob (Merge fl whole inputs outputs) q = absurd q
+    by MergeJob (Merge fl whole inputs outputs) q = Stays refl refl (λ f. refl)
+    by MergeJob (Open session log) q = absurd q
+    by MergeJob (Flush row from to log chosen) q = absurd q
+    by MergeJob (Move level fl inputs outputs) q = absurd q
+    by MergeJob (Cut level keys inputs outputs) q = absurd q
+
+pub used_after : (s : Shape) (e : Edit) → ((a b : ℕ) → e ≢ Open a b) → (grown s e).used ≡ s.used ++ map (λ (r : TableRow). r.number) (outputs_of e)
+used_after s (Open a b) h = absurd (h a b refl)
+used_after s (Flush row from to log chosen) h = refl
+used_after s (Move level floor inputs outputs) h = refl
+used_after s (Cut level keys inputs outputs) h = refl
+used_after s (Merge floor whole inputs outputs) h = refl
+
+pub has_parts : (n : ℕ) (ns ms : List ℕ) → has_number n (ns ++ ms) ≡ true → (has_number n ns ≡ true) ⊎ (has_number n ms ≡ true)
+has_parts n [] ms h = inr h
+has_parts n (a ∷ ns) ms h = elim (or_cases (n == a) (has_number n (ns ++ ms)) h) [
+  | inl s ↦ inl (yes (n == a) s)
+  | inr r ↦ elim (has_parts n ns ms r) [ inl x ↦ inl (more (n == a) x) | inr y ↦ inr y ]
+]
+  where
+    yes : (b : Bool) → b ≡ true → (b || has_number n ns) ≡ true
+    yes true e = refl
+    yes false e = absurd (false≢true e)
+
+    more : (b : Bool) → has_number n ns ≡ true → (b || has_number n ns) ≡ true
+    more true e = refl
+    more false e = e
+
+pub row_number : (n : ℕ) (rs : List TableRow) → has_number n (map (λ (r : TableRow). r.number) rs) ≡ true → (r : TableRow) × IsIn r rs × (n ≡ r.number)
+row_number n [] h = absurd (false≢true h)
+row_number n (r ∷ rs) h = elim (or_cases (n == r.number) (has_number n (map (λ (r : TableRow). r.number) rs)) h) [
+  | inl s ↦ (r, inl refl, eqb-true n r.number s)
+  | inr m ↦ let x = row_number n rs m in (x.0, inr x.1, x.2)
+]
+
+pub each_row : (p : TableRow → Bool) (r : TableRow) (rs : List TableRow) → list_all p rs ≡ true → IsIn r rs → p r ≡ true
+each_row p r [] h i = absurd i
+each_row p r (q ∷ rs) h i =
+    let a = and_parts (p q) (list_all p rs) h in
+    elim i [ inl s ↦ ap p s ∙ a.0 | inr m ↦ each_row p r rs a.1 m ]
+
+-- the numbers that an outcome takes are of its job's block
+pub block_of : (j : Job) (rows : List TableRow) (m : ℕ) → list_all (λ r. nat_le j.numbers r.number && nat_lt r.number (j.numbers + numbers_needed j)) rows ≡ true
+    → has_number m (map (λ (r : TableRow). r.number) rows) ≡ true → (j.numbers ≤ m) × (m < j.numbers + numbers_needed j)
+block_of j rows m h i =
+    let x = row_number m rows i in
+    let p = and_parts _ _ (each_row (λ r. nat_le j.numbers r.number && nat_lt r.number (j.numbers + numbers_needed j)) x.0 rows h x.1) in
+    (omega (arith, x.2, leb-true j.numbers x.0.number p.0), omega (arith, x.2, ltb-true x.0.number (j.numbers + numbers_needed j) p.1))
+
+-- ---- a whole session
+
+abbrev pub top_of : ℕ → Session → ℕ
+top_of session n = session * 2 ^ 40 + 1 + n.reserved
+
+-- what is frozen is above the last flush, and its log is above the last flush's
+pub record IsFrozen (s : Shape) (n : Session) (k : ℕ) : Type 0 where
+  pub at : k ≡ n.mem_from
+  pub above : s.to < k
+  pub log : s.log < n.log + n.freezes
+  pub some : 1 ≤ n.freezes
+
+pub record InNumbers (s : Shape) (last : ℕ) (n : Session) : Type 0 where
+  pub positive : 1 ≤ s.session
+  pub used : (m : ℕ) → has_number m s.used ≡ true → m < top_of s.session n
+  pub room : n.reserved < 2 ^ 40
+  pub blocks : Blocks (top_of s.session n) n.running
+  pub faults : FaultBlocks (top_of s.session n) n.faulted
+  pub log_least : 1 ≤ n.log
+  pub log_room : n.log ≤ (s.session - 1) * 2 ^ 41 + 1
+  pub logs : s.log ≤ n.log + n.freezes
+  pub mem : s.to ≤ n.mem_from
+  pub mem_last : n.mem_from ≤ last
+  pub few : n.freezes ≤ n.committed + 1
+  pub fewer : n.mem_from < last → n.freezes ≤ n.committed
+  pub frozen : (k : ℕ) → n.frozen ≡ Some k → IsFrozen s n k
+
+abbrev pub NumbersHold : Shape → ℕ → Option Session → Type 0
+NumbersHold s last None = ⊤
+NumbersHold s last (Some n) = InNumbers s last n
+
+numbers_map : (s : Shape) (last : ℕ) (s2 : Shape) (last2 : ℕ) (x : Option Session) (f : Session → Session) → ((n : Session) → x ≡ Some n → InNumbers s last n → InNumbers s2 last2 (f n))
+    → NumbersHold s last x → NumbersHold s2 last2 (option_map f x)
+numbers_map s last s2 last2 None f g h = tt
+numbers_map s last s2 last2 (Some n) f g h = g n refl h
+
+faults_up : (a b : ℕ) (f : Option (List Running)) → a ≤ b → FaultBlocks a f → FaultBlocks b f
+faults_up a b None l h = tt
+faults_up a b (Some rs) l h = blocks_up a b rs l h
+
+abbrev pub Numbers : Standing → Type 0
+Numbers w = NumbersHold w.tree.shape (last_number w.batches) w.session
+
+pub numbers_step : (o : Column) (w : Standing) (e : Event) → All o w → Numbers w → Allowed o w w.session e → Numbers (step o w e)
+numbers_step o w (Opened session log) al h a = by w.session a
+  where
+    by : (s : Option Session) → Allowed o w s (Opened session log) → Numbers (step o w (Opened session log))
+    by (Some n) x = absurd x
+    by None x =
+        let p3 = and_parts _ _ x.0 in
+        let p2 = and_parts _ _ p3.0 in
+        let p1 = and_parts _ _ p2.0 in
+        record {
+          positive = omega (arith, x.1);
+          used = λ m i. absurd (false≢true i);
+          room = omega arith;
+          blocks = tt;
+          faults = tt;
+          log_least = leb-true 1 log p2.1;
+          log_room = leb-true log ((session - 1) * 2 ^ 41 + 1) p3.1;
+          logs = omega (arith, leb-true w.tree.shape.log log p1.1);
+          mem = omega arith;
+          mem_last = al.shows.to_last;
+          few = omega arith;
+          fewer = λ l. omega arith;
+          frozen = λ k q. absurd (none_some k q);
+        }
+      where
+        none_some : (k : ℕ) → None ≡ Some k → ⊥
+        none_some k q = cc
+numbers_step o w (Commit actor first ops) al h a =
+    let grows : last_number w.batches ≤ last_number (w.batches ++ (first, ops) ∷ []) = last_grows w.batches ((first, ops) ∷ []) in
+    numbers_map w.tree.shape (last_number w.batches) w.tree.shape (last_number (w.batches ++ (first, ops) ∷ [])) w.session _ (λ n e x.
+    let y = within o w (Commit actor first ops) n e a in
+    record {
+      positive = x.positive;
+      used = x.used;
+      room = x.room;
+      blocks = x.blocks;
+      faults = x.faults;
+      log_least = x.log_least;
+      log_room = x.log_room;
+      logs = x.logs;
+      mem = x.mem;
+      mem_last = omega (arith, x.mem_last, grows);
+      few = omega (arith, x.few);
+      fewer = λ l. omega (arith, x.few, y.1);
+      frozen = λ k q. let z = x.frozen k q in record { at = z.at; above = z.above; log = z.log; some = z.some };
+    }) h
+numbers_step o w (Synced actor m) al h a =
+    numbers_map _ _ _ _ w.session _ (λ n e x. record {
+      positive = x.positive;
+      used = x.used;
+      room = x.room;
+      blocks = x.blocks;
+      faults = x.faults;
+      log_least = x.log_least;
+      log_room = x.log_room;
+      logs = x.logs;
+      mem = x.mem;
+      mem_last = x.mem_last;
+      few = x.few;
+      fewer = x.fewer;
+      frozen = λ k q. let z = x.frozen k q in record { at = z.at; above = z.above; log = z.log; some = z.some };
+    }) h
+numbers_step o w (Look actor m) al h a = h
+numbers_step o w (Hold actor m) al h a =
+    numbers_map _ _ _ _ w.session _ (λ n e x. record {
+      positive = x.positive;
+      used = x.used;
+      room = x.room;
+      blocks = x.blocks;
+      faults = x.faults;
+      log_least = x.log_least;
+      log_room = x.log_room;
+      logs = x.logs;
+      mem = x.mem;
+      mem_last = x.mem_last;
+      few = x.few;
+      fewer = x.fewer;
+      frozen = λ k q. let z = x.frozen k q in record { at = z.at; above = z.above; log = z.log; some = z.some };
+    }) h
+numbers_step o w (Release actor m) al h a =
+    numbers_map _ _ _ _ w.session _ (λ n e x. record {
+      positive = x.positive;
+      used = x.used;
+      room = x.room;
+      blocks = x.blocks;
+      faults = x.faults;
+      log_least = x.log_least;
+      log_room = x.log_room;
+      logs = x.logs;
+      mem = x.mem;
+      mem_last = x.mem_last;
+      few = x.few;
+      fewer = x.fewer;
+      frozen = λ k q. let z = x.frozen k q in record { at = z.at; above = z.above; log = z.log; some = z.some };
+    }) h
+numbers_step o w (Freeze m) al h a =
+    numbers_map _ _ _ _ w.session _ (λ n e x.
+    let y = within o w (Freeze m) n e a in
+    record {
+      positive = x.positive;
+      used = x.used;
+      room = x.room;
+      blocks = x.blocks;
+      faults = x.faults;
+      log_least = x.log_least;
+      log_room = x.log_room;
+      logs = omega (arith, x.logs);
+      mem = omega (arith, x.mem, y.2, y.3);
+      mem_last = omega (arith, y.3);
+      few = omega (arith, x.fewer y.2);
+      fewer = λ l. absurd (omega (arith, y.3));
+      frozen = λ k q. record { at = sym (some_same m k q); above = omega (arith, some_same m k q, x.mem, y.2, y.3); log = omega (arith, x.logs); some = omega arith };
+    }) h
+  where
+    some_same : (k q : ℕ) → Some k ≡ Some q → k ≡ q
+    some_same k q r = cc
+numbers_step o w (Begin actor job) al h a =
+    numbers_map _ _ _ _ w.session _ (λ n e x.
+    let y = within o w (Begin actor job) n e a in
+    let l : IsLawful o w n job = y.2 in
+    record {
+      positive = x.positive;
+      used = λ m i. omega (arith, x.used m i);
+      room = l.room;
+      blocks = (omega (arith, l.numbers), blocks_up (top_of w.tree.shape.session n) job.numbers n.running (omega (arith, l.numbers)) x.blocks);
+      faults = faults_up _ _ n.faulted (omega arith) x.faults;
+      log_least = x.log_least;
+      log_room = x.log_room;
+      logs = x.logs;
+      mem = x.mem;
+      mem_last = x.mem_last;
+      few = x.few;
+      fewer = x.fewer;
+      frozen = λ k q. let z = x.frozen k q in record { at = z.at; above = z.above; log = z.log; some = z.some };
+    }) h
+numbers_step o w (Done actor e) al h a =
+    numbers_map w.tree.shape (last_number w.batches) (grown w.tree.shape e) (last_number w.batches) w.session _ (λ n q x.
+    let y = within o w (Done actor e) n q a in
+    let out = job_in n.running actor (λ k. IsOutcome o w n k e) y.1 in
+    let session : (grown w.tree.shape e).session ≡ w.tree.shape.session = same_session w.tree.shape e (not_open o w n out.0 e out.2) in
+    let used : (m : ℕ) → has_number m (grown w.tree.shape e).used ≡ true → m < top_of w.tree.shape.session n =
+    λ m i. elim (has_parts m w.tree.shape.used _ (subst (λ ns. has_number m ns ≡ true) (used_after w.tree.shape e (not_open o w n out.0 e out.2)) i)) [
+      | inl b ↦ x.used m b
+      | inr b ↦ omega (arith, (block_of out.0 (outputs_of e) m out.2.numbers b).1, blocks_below _ n.running (actor, out.0) x.blocks out.1)
+    ] in
+    done n x session used (turn w.tree.shape n out.0 e out.2.same)) h
+  where
+    done : (n : Session) → InNumbers w.tree.shape (last_number w.batches) n → (grown w.tree.shape e).session ≡ w.tree.shape.session
+        → ((m : ℕ) → has_number m (grown w.tree.shape e).used ≡ true → m < top_of w.tree.shape.session n) → Turn w.tree.shape n e
+        → InNumbers (grown w.tree.shape e) (last_number w.batches) (record n { running = without_job n.running actor; frozen = flushed e n.frozen })
+    done n x session used (Stays to log same) =
+        record {
+          positive = rw session x.positive;
+          used = rw session used;
+          room = x.room;
+          blocks = rw session (blocks_filter _ _ n.running x.blocks);
+          faults = rw session x.faults;
+          log_least = x.log_least;
+          log_room = rw session x.log_room;
+          logs = omega (arith, log, x.logs);
+          mem = omega (arith, to, x.mem);
+          mem_last = x.mem_last;
+          few = x.few;
+          fewer = x.fewer;
+          frozen = λ k q. let z = x.frozen k (sym (same n.frozen) ∙ q) in record { at = z.at; above = omega (arith, to, z.above); log = omega (arith, log, z.log); some = z.some };
+        }
+    done n x session used (Flushes k fz to log same) =
+        let z = x.frozen k fz in
+        record {
+          positive = rw session x.positive;
+          used = rw session used;
+          room = x.room;
+          blocks = rw session (blocks_filter _ _ n.running x.blocks);
+          faults = rw session x.faults;
+          log_least = x.log_least;
+          log_room = rw session x.log_room;
+          logs = omega (arith, log);
+          mem = omega (arith, to, z.at);
+          mem_last = x.mem_last;
+          few = x.few;
+          fewer = x.fewer;
+          frozen = λ m q. absurd (none_some m (sym (same n.frozen) ∙ q));
+        }
+      where
+        none_some : (k : ℕ) → None ≡ Some k → ⊥
+        none_some k q = cc
+numbers_step o w (Short actor cause bytes) al h a =
+    numbers_map _ _ _ _ w.session _ (λ n e x. record {
+      positive = x.positive;
+      used = x.used;
+      room = x.room;
+      blocks = blocks_filter _ _ n.running x.blocks;
+      faults = x.faults;
+      log_least = x.log_least;
+      log_room = x.log_room;
+      logs = x.logs;
+      mem = x.mem;
+      mem_last = x.mem_last;
+      few = x.few;
+      fewer = x.fewer;
+      frozen = λ k q. let z = x.frozen k q in record { at = z.at; above = z.above; log = z.log; some = z.some };
+    }) h
+numbers_step o w JournalFault al h a =
+    numbers_map _ _ _ _ w.session _ (λ n e x. record {
+      positive = x.positive;
+      used = x.used;
+      room = x.room;
+      blocks = x.blocks;
+      faults = x.blocks;
+      log_least = x.log_least;
+      log_room = x.log_room;
+      logs = x.logs;
+      mem = x.mem;
+      mem_last = x.mem_last;
+      few = x.few;
+      fewer = x.fewer;
+      frozen = λ k q. let z = x.frozen k q in record { at = z.at; above = z.above; log = z.log; some = z.some };
+    }) h
+numbers_step o w (Stop m e) al h a = tt

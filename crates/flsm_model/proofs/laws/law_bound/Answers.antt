@@ -1,0 +1,6 @@
+use Rattle.flsm_model.proofs.Places.{record_bound}
+use Rattle.flsm_model.proofs.Truth.{written_once}
+use Rattle.flsm_model.proofs.laws.law_bound.Goals as goal
+
+pub returns : goal.returns
+returns c = record { history = written_once; edits = record_bound }

@@ -1,0 +1,6 @@
+use Rattle.flsm_model.proofs.Base.{place_in_guards}
+use Rattle.flsm_model.proofs.Committed.{always_cut}
+use Rattle.flsm_model.proofs.laws.law_guards.Goals as goal
+
+pub returns : goal.returns
+returns c = record { placed = place_in_guards; cut = always_cut }

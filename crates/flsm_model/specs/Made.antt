@@ -1,0 +1,58 @@
+-- An edit that a worker makes of a running job, and why it may be installed whenever the job is done.
+use Rattle.std.specs.Prelude.{◌≡◌, ℕ, ◌+◌, Bool, true, false, ◌&&◌, not, List, [], ◌∷◌, map, flat_map, nat_lt, nat_le, ◌==◌, ⊤, Some}
+use Rattle.std.specs.List.{list_all, AllZip}
+use Rattle.flsm_model.specs.Compaction.{kept, pieces, some_entries}
+use Rattle.flsm_model.specs.Fits.{numbers_differ}
+use Rattle.flsm_model.specs.Trees.{Describes, contents, content_of, merged}
+use Rattle.peb_base.specs.declared.entry.Entry.{Entry}
+use Rattle.peb_base.specs.Profiles.{Column}
+use Rattle.flsm_model.specs.declared.edit.Edit.{Edit}
+use Rattle.flsm_model.specs.declared.edit.Edit.TheVariants.{Flush}
+use Rattle.flsm_model.specs.declared.job_kind.JobKind.{JobKind}
+use Rattle.flsm_model.specs.declared.job_kind.JobKind.TheVariants.{Flush as FlushJob, Move as MoveJob, Cut as CutJob, Merge as MergeJob}
+use Rattle.flsm_model.specs.declared.job.Job.{Job}
+use Rattle.flsm_model.specs.Shape.{has_number, outputs_of}
+use Rattle.flsm_model.specs.Choices.{Chooses}
+use Rattle.flsm_model.specs.TrueRecord.{IsIn}
+use Rattle.flsm_model.specs.Events.{Event, Session, Standing, Running}
+use Rattle.flsm_model.specs.Jobs.{numbers_needed}
+use Rattle.flsm_model.specs.Outcomes.{level_into, outcome, frozen_entries, IsEditOf, IsOutcome}
+use Rattle.flsm_model.specs.Steps.{step}
+use Rattle.flsm_model.specs.Legal.{AllowedIn}
+
+-- a Flush begins where the last one ended
+abbrev pub StartsAt : ℕ → Edit → Type 0
+StartsAt to (Flush row from upto log chosen) = from ≡ to
+StartsAt to e = ⊤
+
+-- the edit is one that the job's worker makes: rows of the job's level, with numbers of its own, that describe the outcome's contents
+pub record IsMade (o : Column) (w : Standing) (n : Session) (j : Job) (e : Edit) : Type 0 where
+  pub same : IsEditOf j.kind n j e
+  pub starts : StartsAt w.tree.shape.to e
+  pub holds : AllZip (Describes o) (outputs_of e) (contents o w.batches w.tree e)
+  pub chooses : Chooses o w.batches w.tree e
+  pub levels : list_all (λ r. r.level == level_into j && r.tier == 0) (outputs_of e) ≡ true
+  pub numbers : list_all (λ r. nat_le j.numbers r.number && nat_lt r.number (j.numbers + numbers_needed j)) (outputs_of e) ≡ true
+  pub differ : numbers_differ (map (λ r. r.number) (outputs_of e)) ≡ true
+
+-- whatever other jobs did since, such an edit of a job in flight fits the record and is the job's outcome
+abbrev pub OutcomesFit : Column → Standing → Type 0
+OutcomesFit o w = (n : Session) → w.session ≡ Some n → (r : Running) → IsIn r n.running → (e : Edit) → IsMade o w n r.1 e → IsOutcome o w n r.1 e
+
+-- what a job makes of its inputs, or of what is frozen, by what the worker knows: a Move cuts by the job's own keys
+abbrev pub made_at : JobKind → Standing → Session → Job → List (List Entry)
+made_at FlushJob w n j = frozen_entries w.batches w.tree.shape.to n.frozen
+made_at MoveJob w n j = pieces (kept (merged w.tree.tables j.inputs) j.floor false) j.keys
+made_at CutJob w n j = flat_map (λ m. pieces (content_of w.tree.tables m) j.keys) j.inputs
+made_at MergeJob w n j = some_entries (kept (merged w.tree.tables j.inputs) j.floor j.whole)
+
+-- the outcome of a job in flight is what the job makes of its inputs; while it stays in flight, the inputs' entries and the outcome stay
+pub record OutcomeStands (o : Column) (w : Standing) (n : Session) (r : Running) : Type 0 where
+  pub own : outcome o w n r.1 ≡ made_at r.1.kind w n r.1
+  pub inputs : (e : Event) (m : Session) → AllowedIn o w n e → (step o w e).session ≡ Some m → IsIn r m.running
+      → (k : ℕ) → has_number k r.1.inputs ≡ true → content_of (step o w e).tree.tables k ≡ content_of w.tree.tables k
+  pub stays : (e : Event) (m : Session) → AllowedIn o w n e → (step o w e).session ≡ Some m → IsIn r m.running → outcome o (step o w e) m r.1 ≡ outcome o w n r.1
+
+-- so it is of each job in flight
+abbrev pub OutcomesStay : Column → Standing → Type 0
+OutcomesStay o w = (n : Session) → w.session ≡ Some n → (r : Running) → IsIn r n.running → OutcomeStands o w n r

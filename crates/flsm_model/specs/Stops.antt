@@ -1,0 +1,23 @@
+-- What a history and a stop leave.
+use Rattle.std.specs.Prelude.{◌≡◌, ℕ, suc, ◌+◌, ◌*◌, ◌^◌, ◌<◌, ◌≤◌, None}
+use Rattle.peb_base.specs.Profiles.{Column}
+use Rattle.flsm_model.specs.Trees.{tree_of}
+use Rattle.flsm_model.specs.TrueRecord.{IsTrue}
+use Rattle.flsm_model.specs.Events.{Opened, Standing}
+use Rattle.flsm_model.specs.Legal.{Allowed}
+
+-- the record is true of the batches, and the tree is the one that it spells
+pub record RecordIsTrue (o : Column) (w : Standing) : Type 0 where
+  pub holds : IsTrue o w.edits w.batches
+  pub tree : w.tree ≡ tree_of o w.batches w.edits
+
+-- the next session may be opened, with any log from the last flush's to the session's first
+pub record OpensNext (o : Column) (w : Standing) : Type 0 where
+  pub least : 1 ≤ w.tree.shape.log
+  pub room : w.tree.shape.log ≤ w.tree.shape.session * 2 ^ 41 + 1
+  pub opens : (log : ℕ) → w.tree.shape.log ≤ log → log ≤ w.tree.shape.session * 2 ^ 41 + 1 → w.tree.shape.session < 8388607
+      → Allowed o w None (Opened (suc w.tree.shape.session) log)
+
+-- where no session is open stands a true base, from which the next session may be opened
+abbrev pub StopLeavesBase : Column → Standing → Type 0
+StopLeavesBase o w = w.session ≡ None → RecordIsTrue o w × OpensNext o w

@@ -1,0 +1,202 @@
+//! What a shape becomes by an edit.
+
+ghost use Rattle.std.specs.Prelude.{◌≡◌, ◌≤◌, ℕ, ◌-◌, vec_len, vec_capacity, ◌++◌, [], ◌∷◌, map, set, OnOk, OnErr, IfOk, if◌then◌else◌};
+ghost use Rattle.peb_base.specs.Profiles.{column};
+ghost use Rattle.flsm_model.specs.Ranges as ranges;
+ghost use Rattle.flsm_model.specs.Shape as shapes;
+ghost use Rattle.flsm_model.specs.Fits as fits;
+ghost use Rattle.flsm_model.specs.Fits.{GoesOn};
+ghost use Rattle.flsm_model.specs.Told.{told};
+
+use crate::chosen::Chosen;
+use crate::copying::{copy_all_chosen, copy_rows};
+use crate::edit::Edit;
+use crate::merging::with_keys;
+use crate::searches::has_number;
+use crate::shape::Shape;
+use peb_base::{Key, List, Memory, TableRow};
+use std::alloc::Global;
+use std::mem;
+
+/// The numbers with those of the rows behind them.
+fn with_numbers(alloc: Global, numbers: &[u64], rows: &[TableRow]) -> Result<Vec<u64>, Memory>
+    ensures { IfOk result (λ all. all.items ≡ numbers.now ++ map (λ row. row.number) rows.now) }
+{
+    let mut all = Vec::from_slice(alloc, numbers)?;
+    for row in rows {
+        all.push(row.number)?;
+    }
+    Ok(all)
+}
+
+/// Copies of the chosen keys, the later ones behind the others.
+fn with_chosen(alloc: Global, chosen: &[Chosen], later: &[Chosen]) -> Result<Vec<Chosen>, Memory>
+    ensures { IfOk result (λ all. all.items ≡ chosen.now ++ later.now) }
+{
+    let mut all = copy_all_chosen(alloc, chosen)?;
+    let mut later = copy_all_chosen(alloc, later)?;
+    all.append(&mut later)?;
+    Ok(all)
+}
+
+/// Takes the rows of these numbers away.
+fn drop_rows(rows: &mut Vec<TableRow>, numbers: &[u64])
+    ensures rows { rows.new.items ≡ shapes.rows_without numbers.now rows.old.items }
+    ensures fewer { vec_len rows.new ≤ vec_len rows.old }
+    ensures capacity { vec_capacity rows.new ≡ vec_capacity rows.old }
+{
+    rows.retain(|row| !has_number(row.number, numbers));
+}
+
+/// Takes the rows of these numbers away, and puts the added ones behind the others.
+fn exchange_rows(
+    rows: &mut Vec<TableRow>,
+    numbers: &[u64],
+    mut added: Vec<TableRow>,
+) -> Result<(), Memory>
+    ensures ok { OnOk result (rows.new.items ≡ shapes.rows_without numbers.now rows.old.items ++ added.items) }
+    ensures err { OnErr result (rows.new.items ≡ rows.old.items) }
+{
+    rows.reserve(added.len())?;
+    drop_rows(rows, numbers);
+    rows.append(&mut added)?;
+    Ok(())
+}
+
+/// Puts another list in place of the one at this place, where there is one.
+fn set_guards(guards: &mut Vec<List<Key>>, place: usize, keys: List<Key>)
+    ensures { guards.new.items ≡ set guards.old.items place keys }
+{
+    if let Some(old) = guards.get_mut(place) {
+        *old = keys;
+    }
+}
+
+impl Shape {
+    /// Takes the inputs away and the outputs in. An error changes nothing.
+    fn exchange(&mut self, inputs: &[u64], outputs: &[TableRow]) -> Result<(), Memory>
+        ensures ok { OnOk result (told self.new ≡ shapes.after_exchange (told self.old) inputs.now outputs.now) }
+        ensures err { OnErr result (told self.new ≡ told self.old) }
+        ensures options { self.new.options ≡ self.old.options }
+    {
+        let alloc = self.alloc();
+        let added = copy_rows(alloc, outputs)?;
+        let used = with_numbers(alloc, self.used.items(), outputs)?;
+        let mut rows = mem::replace(&mut self.live, List::of(Vec::new(alloc))).into_vec();
+        let done = exchange_rows(&mut rows, inputs, added);
+        self.live = List::of(rows);
+        done?;
+        self.used = List::of(used);
+        Ok(())
+    }
+
+    /// Puts these guards in place of the ones of a level.
+    fn put_guards(&mut self, level: u8, keys: Vec<Key>)
+        ensures shape { told self.new ≡ record (told self.old) { guards = set self.old.guards (level - 1) keys.items } }
+        ensures options { self.new.options ≡ self.old.options }
+    {
+        let none = List::of(Vec::new(self.alloc()));
+        let mut guards = mem::replace(&mut self.guards, none).into_vec();
+        set_guards(
+            &mut guards,
+            level.saturating_sub(1) as usize,
+            List::of(keys),
+        );
+        self.guards = List::of(guards);
+    }
+
+    /// Takes an opening in.
+    fn open(&mut self, session: u64)
+        ensures shape { told self.new ≡ record (told self.old) { session = session; used = [] } }
+        ensures options { self.new.options ≡ self.old.options }
+    {
+        self.session = session;
+        self.used = List::of(Vec::new(self.alloc()));
+    }
+
+    /// Takes a flush in. An error changes nothing.
+    fn flush(&mut self, row: &TableRow, to: u64, log: u64, chosen: &[Chosen]) -> Result<(), Memory>
+        ensures ok { OnOk result (told self.new
+            ≡ record (shapes.after_exchange (told self.old) [] (row.now ∷ [])) { to = to; log = log; chosen = self.old.chosen ++ chosen.now }) }
+        ensures err { OnErr result (told self.new ≡ told self.old) }
+        ensures options { self.new.options ≡ self.old.options }
+    {
+        let chosen = with_chosen(self.alloc(), self.chosen.items(), chosen)?;
+        self.exchange(&[], std::slice::from_ref(row))?;
+        self.to = to;
+        self.log = log;
+        self.chosen = List::of(chosen);
+        Ok(())
+    }
+
+    /// Takes a guard split in. An error changes nothing.
+    fn cut(
+        &mut self,
+        level: u8,
+        keys: &[Key],
+        inputs: &[u64],
+        outputs: &[TableRow],
+    ) -> Result<(), Memory>
+        ensures ok { OnOk result (told self.new
+            ≡ record (shapes.after_exchange (told self.old) inputs.now outputs.now) { guards = set self.old.guards (level - 1) (ranges.with_keys keys.now (shapes.guards_at (told self.old) level)) }) }
+        ensures err { OnErr result (told self.new ≡ told self.old) }
+        ensures options { self.new.options ≡ self.old.options }
+    {
+        let guards = with_keys(self.alloc(), keys, self.guards_at(level as usize))?;
+        self.exchange(inputs, outputs)?;
+        self.put_guards(level, guards);
+        Ok(())
+    }
+
+    /// Takes an edit in that fits. An error changes nothing.
+    fn grow(&mut self, edit: &Edit) -> Result<(), Memory>
+        ensures ok { OnOk result (told self.new ≡ shapes.grown (told self.old) edit.now) }
+        ensures err { OnErr result (told self.new ≡ told self.old) }
+        ensures options { self.new.options ≡ self.old.options }
+    {
+        match edit {
+            Edit::Open { session, .. } => {
+                self.open(*session);
+                Ok(())
+            }
+            Edit::Flush {
+                row,
+                to,
+                log,
+                chosen,
+                ..
+            } => self.flush(row, to.packed(), *log, chosen.items()),
+            Edit::Move {
+                inputs,
+                outputs,
+                ..
+            } => self.exchange(inputs.items(), outputs.items()),
+            Edit::Cut {
+                level,
+                keys,
+                inputs,
+                outputs,
+            } => self.cut(*level, keys.items(), inputs.items(), outputs.items()),
+            Edit::Merge {
+                inputs,
+                outputs,
+                ..
+            } => self.exchange(inputs.items(), outputs.items()),
+        }
+    }
+
+    /// Takes an edit in where it fits. False comes exactly where it doesn't; then, and on an error, nothing changes.
+    pub fn add(&mut self, edit: &Edit) -> Result<bool, Memory>
+        ensures fits { IfOk result (λ fitting. fitting ≡ fits.fits (column self.old.options.profile) (told self.old) edit.now) }
+        ensures grown { IfOk result (λ fitting. told self.new ≡ (if fitting then shapes.grown (told self.old) edit.now else told self.old)) }
+        ensures err { OnErr result (told self.new ≡ told self.old) }
+        ensures options { self.new.options ≡ self.old.options }
+        ensures record { IfOk result (λ fitting. GoesOn (column self.old.options.profile) (told self.old) (told self.new) edit.now fitting) }
+    {
+        if !self.fits(edit)? {
+            return Ok(false);
+        }
+        self.grow(edit)?;
+        Ok(true)
+    }
+}

@@ -1,0 +1,68 @@
+//! What every legal history keeps. Each function runs nothing; its contract is the law.
+//!
+//! A law speaks of every profile and every legal history over a base, that is over batches and a record that is true of
+//! them. Jobs in flight, jobs that were cut short, faults of the journal and stops are all part of such a history. Since each front of a
+//! legal history is legal, a law holds at every moment.
+
+ghost use Rattle.flsm_model.specs.Legal.{Always};
+ghost use Rattle.flsm_model.specs.Placing.{OnePlace, OrderHolds, PlaceInGuards, AlwaysCut};
+ghost use Rattle.flsm_model.specs.Bounds.{WrittenOnce, RecordBound};
+ghost use Rattle.flsm_model.specs.Reading.{MapHolds, MapShows};
+ghost use Rattle.flsm_model.specs.Stops.{RecordIsTrue, StopLeavesBase};
+ghost use Rattle.flsm_model.specs.Undisturbed.{JobsUndisturbed};
+ghost use Rattle.flsm_model.specs.Made.{OutcomesFit, OutcomesStay};
+
+/// Each entry is in one live table at most.
+pub fn law_place()
+    ensures { Always OnePlace }
+{}
+
+/// A key's numbers fall from each level to every deeper one, so a read may stop at the first level that has the key.
+pub fn law_order()
+    ensures { Always OrderHolds }
+{}
+
+/// Each live table below level 0 lies in one guard's range of its level, and a compaction never carries a put of a candidate of the next
+/// level past that level before the candidate is a guard there.
+pub fn law_guards()
+    ensures placed { Always PlaceInGuards }
+    ensures cut { AlwaysCut }
+{}
+
+/// Where a number is last or held, the newest puts up to it in the memtables and live tables are those of the batches; as lists of rows,
+/// they are the ordered map.
+pub fn law_map()
+    ensures puts { Always MapHolds }
+    ensures rows { Always MapShows }
+{}
+
+/// Above the last level each entry is written once, once more for each new guard inside its table, and once for each attempt.
+pub fn law_bound()
+    ensures history { Always WrittenOnce }
+    ensures edits { RecordBound }
+{}
+
+/// The record is true of the batches, and the tree is the one that the record spells.
+pub fn law_record()
+    ensures { Always RecordIsTrue }
+{}
+
+/// What stands where no session is open is a true base, and below the limit of sessions the next one may be opened.
+pub fn law_stop()
+    ensures { Always StopLeavesBase }
+{}
+
+/// No claims of two jobs in flight conflict, and each such job still has its range, its inputs, its keys and its numbers.
+pub fn law_jobs()
+    ensures { Always JobsUndisturbed }
+{}
+
+/// What a job in flight makes fits the record, whatever other jobs did since it began.
+pub fn law_outcomes()
+    ensures { Always OutcomesFit }
+{}
+
+/// The outcome of each job in flight is what the job makes of its inputs by its own keys, and stays so while the job is in flight.
+pub fn law_stays()
+    ensures { Always OutcomesStay }
+{}

@@ -1,0 +1,4 @@
+pub mod Needs
+pub mod OneMore
+pub mod Places
+pub mod Within

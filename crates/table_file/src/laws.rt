@@ -1,0 +1,26 @@
+//! Laws of tables.
+
+ghost use Rattle.std.specs.Prelude.{◌≡◌, ◌<◌, ◌≤◌, ◌^◌, List, ℕ, length};
+ghost use Rattle.peb_base.specs.declared.table_row.TableRow.{TableRow};
+ghost use Rattle.peb_base.specs.Entries.{AreSorted};
+ghost use Rattle.peb_base.specs.declared.entry.Entry.{Entry};
+ghost use Rattle.table_file.specs.Form.{blocks_of, items_from, index_bytes, key_filter, table_bytes};
+ghost use Rattle.table_file.specs.Opening.{OpensAs};
+ghost use Rattle.table_file.specs.declared.index_item.IndexItem.{IndexItem};
+
+use block_form::block_grows;
+use bloom::law_filter;
+
+/// Bytes are a table of a row with one index and one filter at most.
+pub fn one_opening()
+    ensures { (row : TableRow) (a b : List IndexItem) (f g bytes : List ℕ) → row.bytes < 2 ^ 64 → OpensAs row a f bytes → OpensAs row b g bytes → (a ≡ b) × (f ≡ g) }
+{}
+
+/// The bytes of a table's entries, in a profile whose blocks are full at most at 4096 bytes, open by the table's row as the
+/// table that was written: with its index and its filter.
+pub fn written_opens()
+    ensures { (row : TableRow) (full number : ℕ) (es : List Entry) → 5 < full → full ≤ 4096 → AreSorted es → 0 < length es → length es ≤ 1717986918 → length (index_bytes (items_from 0 (blocks_of full es))) ≤ 2147483648 → row.number ≡ number → row.entries ≡ length es → row.bytes ≡ length (table_bytes full number es) → OpensAs row (items_from 0 (blocks_of full es)) (key_filter es) (table_bytes full number es) }
+{
+    block_grows();
+    law_filter();
+}
