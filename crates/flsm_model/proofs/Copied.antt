@@ -1,5 +1,5 @@
 -- Lists that are copied or filled.
-use Rattle.std.proofs.Common.{◌≡◌, ℕ, ◌+◌, List, [], ◌∷◌, ◌++◌, replicate, refl, sym, ◌∙◌, ap}
+use Rattle.std.proofs.Common.{◌≡◌, ℕ, ◌+◌, [], ◌∷◌, ◌++◌, replicate, sym}
 use Rattle.std.proofs.lemmas.List.{replicate-append-replicate}
 
 -- one copy more

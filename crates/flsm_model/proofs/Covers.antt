@@ -2,7 +2,7 @@
 use Rattle.std.proofs.Common.{◌≡◌, ℕ, suc, ◌<◌, ◌≤◌, Bool, true, false, cond, not, List, [], ◌∷◌, ◌⊎◌, inl, inr, refl, sym, ◌∙◌, ap, subst, arith, map}
 use Rattle.std.specs.Prelude.{◌==◌, flat_map, ◌↔◌}
 use Rattle.std.specs.List.{AllZip}
-use Rattle.std.proofs.lemmas.Bool.{and_parts, and_from, or_parts, or_cases, cases_Bool, eqb-true, eqb-false, eq-eqb, true≢false, false≢true, not-true}
+use Rattle.std.proofs.lemmas.Bool.{and_parts, and_from, or_cases, cases_Bool, eqb-true, eqb-false, true≢false, false≢true, not-true}
 use Rattle.peb_base.specs.Keys.{Bytes, key_lt}
 use Rattle.peb_base.specs.Batches.{Batches}
 use Rattle.peb_base.specs.Entries.{in_order, put_in, entry_lt}

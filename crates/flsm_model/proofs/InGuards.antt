@@ -1,5 +1,5 @@
 -- Each live table below level 0 lies in one guard's range of its level, for every legal record.
-use Rattle.std.proofs.Common.{◌≡◌, ℕ, zero, suc, ◌-◌, ◌<◌, ◌≤◌, ◌≢◌, Bool, true, false, ◌||◌, not, List, [], ◌∷◌, ◌++◌, length, ◌⊎◌, inl, inr, refl, sym, ◌∙◌, ap, subst, arith}
+use Rattle.std.proofs.Common.{◌≡◌, ℕ, zero, suc, ◌-◌, ◌<◌, ◌≤◌, ◌≢◌, Bool, true, false, ◌||◌, not, List, [], ◌∷◌, length, ◌⊎◌, inl, inr, refl, sym, ◌∙◌, ap, subst, arith}
 use Rattle.std.specs.Prelude.{◌==◌, Option, Some, None, set, get_or}
 use Rattle.std.specs.List.{list_any, list_all}
 use Rattle.std.proofs.lemmas.Bool.{and_parts, and_from, cases_eq, true≢false, not-true, eqb-true, eq-eqb}
@@ -14,10 +14,10 @@ use Rattle.peb_base.specs.Profiles.{Column}
 use Rattle.flsm_model.specs.declared.edit.Edit.{Edit}
 use Rattle.flsm_model.specs.declared.edit.Edit.TheVariants.{Open, Flush, Move, Cut, Merge}
 use Rattle.flsm_model.specs.Shape.{Record, Shape, shape_from, grown, exchanged, guards_at, rows_without, rows_numbered, has_number, outputs_of}
-use Rattle.flsm_model.specs.Fits.{fits, fit_from, lies_in, first_smallest, input_range, lie_apart, is_row, is_of_session, is_new, rows_are_new, is_straddled}
+use Rattle.flsm_model.specs.Fits.{fits, fit_from, lies_in, first_smallest, input_range, lie_apart, is_new, rows_are_new, is_straddled}
 use Rattle.flsm_model.proofs.Facts.{CutFits, move_facts, flush_facts, cut_facts, merge_facts}
 use Rattle.flsm_model.proofs.Guards.{AscendFrom, same_range, ranges_kept, ascend_keys}
-use Rattle.flsm_model.proofs.Lists.{Each, each-filter, each-append, each-parts, each_pass, each_both, each_weaker}
+use Rattle.flsm_model.proofs.Lists.{Each, each-filter, each-append, each_pass, each_both, each_weaker}
 
 -- the row lies in a guard's range of its level
 abbrev pub InGuard : Shape → TableRow → Type 0

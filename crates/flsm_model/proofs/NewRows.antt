@@ -7,7 +7,7 @@ use Rattle.std.specs.declared.cmp.Ordering.TheVariants.{Less, Equal, Greater}
 use Rattle.std.specs.Ordering.{nat_cmp, is_lt, ordering_reverse}
 use Rattle.std.specs.Cmp.Lexicographic.{slice_cmp, nat_list_cmp_total, bytes_decides}
 use Rattle.std.proofs.lemmas.Map.Lookups.{exact_bytes}
-use Rattle.std.proofs.lemmas.Bool.{and_parts, and_from, or_left, or_right, or_from, cases_Bool, cases_lt, eq-eqb, ne_eqb, lt-ltb, le-leb, true≢false, false≢true, not-true}
+use Rattle.std.proofs.lemmas.Bool.{and_parts, and_from, or_left, or_right, cases_Bool, cases_lt, eq-eqb, lt-ltb, le-leb, true≢false, false≢true, not-true}
 use Rattle.peb_base.specs.Keys.{Bytes, key_lt, key_le, key_eq}
 use Rattle.flsm_model.specs.Ranges.{neighbours, is_below, in_range, has_key, keys_ascend, range_after, range_of}
 use Rattle.peb_base.specs.Tables.{first_key, last_key, least_number, greatest_number}

@@ -1,5 +1,5 @@
 -- Whatever other jobs did, what a job in flight makes fits the record.
-use Rattle.std.proofs.Common.{◌≡◌, ℕ, suc, ◌+◌, ◌*◌, ◌^◌, ◌<◌, ◌≤◌, Bool, true, false, ◌&&◌, ◌||◌, not, List, [], ◌∷◌, ◌++◌, length, inl, inr, sym, ◌∙◌, ap, subst, arith}
+use Rattle.std.proofs.Common.{◌≡◌, ℕ, suc, ◌+◌, ◌*◌, ◌^◌, ◌<◌, ◌≤◌, Bool, true, false, ◌&&◌, ◌||◌, not, List, [], ◌∷◌, length, sym, ◌∙◌, ap, subst, arith}
 use Rattle.std.specs.Prelude.{nat_lt, nat_le, ◌==◌, flat_map, Some}
 use Rattle.std.specs.List.{list_any, list_all, AllZip}
 use Rattle.std.proofs.lemmas.Bool.{and_parts, and_from, eqb-true, eq-eqb, ltb-true, lt-ltb, leb-true, le-leb}
@@ -40,7 +40,7 @@ use Rattle.flsm_model.proofs.Jobs.{EachJob, FaultJobs, InEach}
 use Rattle.flsm_model.proofs.Undisturb.{EditIs, IsFlushOf, IsMoveOf, IsCutOf, IsMergeOf, edit_is}
 use Rattle.flsm_model.proofs.NewRows.{RowOf, row_of, rows_new, lies_between, first_range, some_rows, apart_lie, zip_of, pieces_apart, apart_ascends, pieces_clear, choices_fit, some_number, greatest_at_most}
 use Rattle.flsm_model.proofs.Whole.{Stands, Calm, stands_always}
-use Rattle.flsm_model.proofs.Lists.{in_filter, in_append, in_flat, all_in, each_in, split_all, all_of}
+use Rattle.flsm_model.proofs.Lists.{in_filter, in_flat, all_in, each_in, split_all, all_of}
 use Rattle.flsm_model.proofs.Starts.{cut_key, first_in}
 
 module _ (o : Column) (w : Standing) (n : Session) (j : Job) (st : Stands o w) (eq : w.session ≡ Some n) (uj : Undisturbed o w.tree.shape j) (run : InFlight o w.tree j) where

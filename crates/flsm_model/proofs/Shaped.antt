@@ -1,10 +1,10 @@
 -- The shape of a record that goes on.
-use Rattle.std.proofs.Common.{◌≡◌, Bool, true, false, ◌&&◌, List, [], ◌∷◌, ◌++◌, refl, sym, ◌∙◌, ap, subst}
+use Rattle.std.proofs.Common.{◌≡◌, Bool, true, false, ◌&&◌, [], ◌∷◌, ◌++◌, refl, sym, ◌∙◌, ap}
 use Rattle.std.specs.Prelude.{if◌then◌else◌}
-use Rattle.std.proofs.lemmas.Bool.{and_parts, and_from}
+use Rattle.std.proofs.lemmas.Bool.{and_parts}
 use Rattle.peb_base.specs.Profiles.{Column}
 use Rattle.flsm_model.specs.declared.edit.Edit.{Edit}
-use Rattle.flsm_model.specs.Shape.{Record, Shape, empty_shape, grown, shape_from, shape_of}
+use Rattle.flsm_model.specs.Shape.{Record, Shape, empty_shape, grown, shape_from}
 use Rattle.flsm_model.specs.Fits.{fits, fit_from, is_legal_record, IsShapeOf, GoesOn}
 
 shape_push : (s : Shape) (r : Record) (e : Edit) → shape_from s (r ++ e ∷ []) ≡ grown (shape_from s r) e

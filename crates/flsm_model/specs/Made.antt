@@ -1,5 +1,5 @@
 -- An edit that a worker makes of a running job, and why it may be installed whenever the job is done.
-use Rattle.std.specs.Prelude.{◌≡◌, ℕ, ◌+◌, Bool, true, false, ◌&&◌, not, List, [], ◌∷◌, map, flat_map, nat_lt, nat_le, ◌==◌, ⊤, Some}
+use Rattle.std.specs.Prelude.{◌≡◌, ℕ, ◌+◌, true, false, ◌&&◌, List, map, flat_map, nat_lt, nat_le, ◌==◌, ⊤, Some}
 use Rattle.std.specs.List.{list_all, AllZip}
 use Rattle.flsm_model.specs.Compaction.{kept, pieces, some_entries}
 use Rattle.flsm_model.specs.Fits.{numbers_differ}

@@ -22,8 +22,8 @@ pub fn law_order()
     ensures { Always OrderHolds }
 {}
 
-/// Each live table below level 0 lies in one guard's range of its level, and a compaction never carries a put of a candidate of the next
-/// level past that level before the candidate is a guard there.
+/// Each live table below level 0 lies in one guard's range of its level, and a compaction's inputs have no put of a candidate of the next
+/// level that isn't a guard there.
 pub fn law_guards()
     ensures placed { Always PlaceInGuards }
     ensures cut { AlwaysCut }

@@ -1,4 +1,4 @@
-use Rattle.std.proofs.Common.{◌≡◌, true, false, refl, sym, ◌∙◌}
+use Rattle.std.proofs.Common.{true, false, refl, sym, ◌∙◌}
 use Rattle.peb_base.specs.Profiles.{column}
 use Rattle.flsm_model.specs.Told.{told}
 use Rattle.flsm_model.proofs.Shaped.{goes_on}

@@ -1,6 +1,5 @@
-use Rattle.std.proofs.Common.{◌≡◌, ℕ, List, ◌∙◌, ap, sym}
+use Rattle.std.proofs.Common.{◌∙◌, ap, sym}
 use Rattle.peb_base.specs.Profiles.{Column, column}
-use Rattle.peb_base.specs.declared.table_row.TableRow.{TableRow}
 use Rattle.flsm_model.specs.declared.edit.Edit.TheVariants.{Move, Merge}
 use Rattle.flsm_model.specs.Shape.{Shape}
 use Rattle.flsm_model.specs.Fits as fits
