@@ -118,12 +118,6 @@ beside o bs t e k new session used run newer =
       | inr b ↦ absurd (true≢false (sym h ∙ no_input o bs t e k u new run b))
     ]
 
--- an entry comes from an input of the ended job, which is none of the other's
-via : (t : Tree) (k : Job) (w v u : Table) (x y : Entry) (o : Column) → InFlight o t k → is_full k.kind k.whole ≡ true → IsIn v t.tables → IsIn x v.entries
-    → has_number v.row.number k.inputs ≡ false → v.row.level ≤ k.level → IsIn u t.tables → has_number u.row.number k.inputs ≡ true → IsIn y u.entries
-    → x.key ≡ y.key → y.number < x.number
-via t k w v u x y o run full i p g l m h q same = run.newer full v u i m h g l x y p q same
-
 pub beside_step : (o : Column) (bs : Batches) (t : Tree) (j k : Job) (e : Edit) → fits o t.shape e ≡ true → rows_of t.tables ≡ t.shape.live
     → AllFlushed t.tables t.shape.to → InFlight o t j → IsFor j e → jobs_conflict j k ≡ false → ((s l : ℕ) → e ≢ Open s l)
     → InFlight o t k → InFlight o (installed o bs t e) k

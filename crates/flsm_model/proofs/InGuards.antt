@@ -184,8 +184,3 @@ in_guards_step o s (Cut level keys inputs outputs) h f = cut_step (cut_facts o s
               (each_both (λ r. (r.level == level) ≡ true) (λ r. lies_in (range_of new r.smallest) r ≡ true) _ outputs (placed k)
               (each_pass (λ r. r.level == level) outputs k.at) (each_pass (λ r. lies_in (range_of new r.smallest) r) outputs k.placed));
         }
-
-pub in_guards_from : (o : Column) (s : Shape) (r : Record) → InGuards o s → fit_from o s r ≡ true → InGuards o (shape_from s r)
-in_guards_from o s [] h f = h
-in_guards_from o s (e ∷ es) h f =
-    let p = and_parts (fits o s e) _ f in in_guards_from o (grown s e) es (in_guards_step o s e h p.0) p.1

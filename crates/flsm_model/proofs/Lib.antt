@@ -35,7 +35,6 @@ pub mod MapLists
 pub mod Newest
 pub mod MapList
 pub mod Stays
-pub mod ChosenKeys
 pub mod Samples
 mod ExampleRecords
 mod ExampleHistories

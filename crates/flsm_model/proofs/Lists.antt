@@ -94,10 +94,6 @@ pub each-append : {X : Type 0} (P : X → Type 0) (xs ys : List X) → Each P xs
 each-append P [] ys h g = g
 each-append P (x ∷ xs) ys h g = (h.0, each-append P xs ys h.1 g)
 
-pub each-parts : {X : Type 0} (P : X → Type 0) (xs ys : List X) → Each P (xs ++ ys) → Each P ys
-each-parts P [] ys h = h
-each-parts P (x ∷ xs) ys h = each-parts P xs ys h.1
-
 pub each_pass : {X : Type 0} (p : X → Bool) (xs : List X) → list_all p xs ≡ true → Each (λ x. p x ≡ true) xs
 each_pass p [] h = tt
 each_pass p (x ∷ xs) h = let a = and_parts (p x) (list_all p xs) h in (a.0, each_pass p xs a.1)

@@ -25,12 +25,9 @@ put key count value = record { key = key ∷ []; number = n count; change = Put 
 abbrev pub delete : ℕ → ℕ → Entry
 delete key count = record { key = key ∷ []; number = n count; change = Delete }
 
--- batches of one operation
+-- a batch of one put
 abbrev pub puts : ℕ → ℕ → ℕ → ℕ × List Op
 puts key count value = (n count, record { key = key ∷ []; change = Put (value ∷ []) } ∷ [])
-
-abbrev pub deletes : ℕ → ℕ → ℕ × List Op
-deletes key count = (n count, record { key = key ∷ []; change = Delete } ∷ [])
 
 -- the row of a table with these entries
 abbrev pub row : ℕ → ℕ → List Entry → TableRow

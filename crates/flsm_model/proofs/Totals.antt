@@ -32,10 +32,6 @@ total-parts {X} f p (x ∷ xs) = by (p x) (total-parts f p xs)
 pub total-filter : {X : Type 0} (f : X → ℕ) (p : X → Bool) (xs : List X) → total f (filter p xs) ≤ total f xs
 total-filter f p xs = omega (arith, total-parts f p xs)
 
-pub total-mono : {X : Type 0} (f g : X → ℕ) (xs : List X) → Each (λ x. f x ≤ g x) xs → total f xs ≤ total g xs
-total-mono f g [] h = omega arith
-total-mono f g (x ∷ xs) h = omega (arith, h.0, total-mono f g xs h.1)
-
 pub total-same : {X : Type 0} (f g : X → ℕ) (xs : List X) → ((x : X) → f x ≡ g x) → total f xs ≡ total g xs
 total-same f g [] h = refl
 total-same f g (x ∷ xs) h = omega (arith, h x, total-same f g xs h)
