@@ -91,7 +91,8 @@ impl Index {
 
     /// Gives the items up, and begins the index of another table.
     pub fn take(&mut self, alloc: Global) -> Vec<IndexItem>
-        ensures { result.items ≡ self.old.items.items }
+        ensures items { result.items ≡ self.old.items.items }
+        ensures next { Indexes self.new [] }
     {
         self.end = 0;
         self.bytes = 4;

@@ -2,7 +2,7 @@
 
 ghost use Rattle.std.specs.Prelude.{◌≡◌, ◌+◌, ◌-◌, ◌<◌, ◌≤◌, ◌^◌, List, ℕ, Some, Err, length, take, drop, IsTrue, IfOk, IfErr};
 ghost use Rattle.disk_model.specs.Images.{Rose};
-ghost use Rattle.table_file.specs.Damages.{IsDamage};
+ghost use Rattle.table_file.specs.Damages.{IsDamage, TellsTable};
 ghost use Rattle.table_file.specs.Form.{footer_bytes, index_bytes};
 ghost use Rattle.table_file.specs.Opening.{IsFooterOf, IsIndex, IsNoTable, OpensAs};
 ghost use Rattle.table_file.specs.declared.table_fault.TableFault.TheVariants.{Fault};
@@ -29,6 +29,7 @@ fn read_at<P: Port>(
     ensures bytes { IfOk result (λ bytes. IsTrue P.File.tells → bytes.items ≡ take len (drop at (P.File.bytes file.now))) }
     ensures short { IfOk result (λ bytes. length bytes.items ≤ len) }
     ensures undamaged { IfErr result (λ why. IsDamage why → ⊥) }
+    ensures table { IfErr result (λ why. (number : ℕ) → TellsTable number why) }
     ensures files { P.table_files port.new ≡ P.table_files port.old }
     ensures reads { P.reads port.new ≤ P.reads port.old + 1 }
     ensures steady { P.steady port.old → P.steady port.new }
@@ -59,6 +60,7 @@ fn read_footer<P: Port>(
     ensures long { IfOk result (λ footer. IsTrue P.File.tells → length (P.File.bytes file.now) ≡ row.now.bytes) }
     ensures spelled { IfOk result (λ footer. IsTrue P.File.tells → drop (row.now.bytes - 48) (P.File.bytes file.now) ≡ footer_bytes footer) }
     ensures damaged { IfErr result (λ why. IsDamage why → IsTrue P.File.tells → IsNoTable row.now (P.File.bytes file.now)) }
+    ensures table { IfErr result (TellsTable row.now.number) }
     ensures files { P.table_files port.new ≡ P.table_files port.old }
     ensures reads { P.reads port.new ≤ P.reads port.old + 1 }
     ensures steady { P.steady port.old → P.steady port.new }
@@ -100,6 +102,7 @@ fn read_index<P: Port>(
     ensures index { IfOk result (λ items. IsIndex footer.now.index items.items) }
     ensures spelled { IfOk result (λ items. IsTrue P.File.tells → take footer.now.index_len (drop footer.now.index (P.File.bytes file.now)) ≡ index_bytes items.items) }
     ensures damaged { IfErr result (λ why. IsDamage why → IsTrue P.File.tells → drop (row.now.bytes - 48) (P.File.bytes file.now) ≡ footer_bytes footer.now → IsNoTable row.now (P.File.bytes file.now)) }
+    ensures table { IfErr result (TellsTable row.now.number) }
     ensures files { P.table_files port.new ≡ P.table_files port.old }
     ensures reads { P.reads port.new ≤ P.reads port.old + 1 }
     ensures steady { P.steady port.old → P.steady port.new }
@@ -133,6 +136,7 @@ fn read_filter<P: Port>(
     ensures filter { IfOk result (λ filter. IsTrue P.File.tells → filter ≡ take footer.now.filter_len (drop footer.now.filter (P.File.bytes file.now))) }
     ensures long { IfOk result (λ filter. length filter ≡ footer.now.filter_len) }
     ensures damaged { IfErr result (λ why. IsDamage why → IsTrue P.File.tells → length (P.File.bytes file.now) ≡ row.now.bytes → ⊥) }
+    ensures table { IfErr result (TellsTable row.now.number) }
     ensures files { P.table_files port.new ≡ P.table_files port.old }
     ensures reads { P.reads port.new ≤ P.reads port.old + 1 }
     ensures steady { P.steady port.old → P.steady port.new }
@@ -173,6 +177,7 @@ impl<F: TableHandle> Table<F> {
         ensures found { IfOk result (λ table. IsTrue F.tells → (P.table_files port.old).sealed row.number ≡ Some (F.bytes table.file)) }
         ensures opened { IfOk result (λ table. IsTrue F.tells → OpensAs row table.items.items table.filter (F.bytes table.file)) }
         ensures damaged { IfErr result (λ why. IsDamage why → IsTrue F.tells → (bytes : List ℕ) → (P.table_files port.old).sealed row.number ≡ Some bytes → IsNoTable row bytes) }
+        ensures table { IfErr result (TellsTable row.number) }
         ensures files { P.table_files port.new ≡ P.table_files port.old }
         ensures reads { P.reads port.new ≤ P.reads port.old + 3 }
         ensures steady { P.steady port.old → P.steady port.new }

@@ -207,6 +207,7 @@ impl TableWriter {
     /// `Fault` comes only where the maker's count of faults rose.
     pub fn start<M: Maker>(&mut self, maker: &mut M, number: u64, level: u8) -> Result<(), PutFault>
         ensures begun { OnOk result (HasPushed M.File.tells (M.begun maker.new) (M.written maker.new) self.new []) }
+        ensures fault { IfErr result (λ why. why ≡ PutFault.Fault) }
         ensures number { OnOk result (self.new.number ≡ number) }
         ensures level { OnOk result (self.new.level ≡ level) }
         ensures block { block_length self.new ≡ block_length self.old }

@@ -50,6 +50,6 @@ returns-clause-table g c = λ es blocks gathers wrote.
       file_number = same_number (g.M.Maker.begun c.args.maker.now) _ _ c.in_ok-file.ensures.number c.requires.begun;
       file_bytes = λ told. table_spelled c.args.number footer (g.M.Maker.written c.args.maker.now) c.in_ok-text.text.items c.in_ok-filter.filter (g.M.File.TableHandle.bytes c.in_ok-file.file) blocks es
           (spelled told) (wrote told) text filter refl end text_items (ap (λ n. c.end-end.result + n) lens) filter_len counted;
-      items_are = c.take-items.ensures ∙ gathers.index_is.items;
+      items_are = c.take-items.ensures.items ∙ gathers.index_is.items;
       filter_is = filter;
     }
