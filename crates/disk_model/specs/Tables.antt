@@ -42,9 +42,11 @@ pub record Gone : Type 0 where
 abbrev pub none_gone : Gone
 none_gone = record { retired = []; removed = [] }
 
+-- the numbers with one more that was retired
 abbrev pub with_retired : ℕ → Gone → Gone
 with_retired number gone = record gone { retired = gone.retired ++ number ∷ [] }
 
+-- the numbers with one more that was removed
 abbrev pub with_removed : ℕ → Gone → Gone
 with_removed number gone = record gone { removed = gone.removed ++ number ∷ [] }
 

@@ -1,4 +1,4 @@
-ghost use Rattle.std.specs.Prelude.{◌≤◌, IfOk, IfSome, length};
+ghost use Rattle.std.specs.Prelude.{◌≡◌, ◌≤◌, IfOk, IfSome, length};
 
 use std::alloc::{AllocError, Global};
 
@@ -9,7 +9,9 @@ pub struct Draws {
 }
 
 impl Draws {
-    pub fn new(seed: u64) -> Draws {
+    pub fn new(seed: u64) -> Draws
+        ensures { result.state ≡ seed }
+    {
         Draws { state: seed }
     }
 

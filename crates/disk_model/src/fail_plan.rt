@@ -1,5 +1,5 @@
 ghost use Rattle.std.specs.Prelude.{◌≡◌, false};
-ghost use Rattle.disk_model.specs.Plans.{IsEmptyPlan};
+ghost use Rattle.disk_model.specs.Plans.{IsEmptyPlan, fails_at};
 
 use std::alloc::Global;
 
@@ -25,7 +25,8 @@ impl FailPlan {
 
     /// Whether the call that is counted so fails.
     pub(crate) fn fails(&self, call: u64) -> bool
-        ensures { IsEmptyPlan self.now → result ≡ false }
+        ensures exact { result ≡ fails_at self.now call }
+        ensures never { IsEmptyPlan self.now → result ≡ false }
     {
         let late = match self.from {
             Some(first) => first <= call,

@@ -19,7 +19,7 @@ pub trait Port {
     /// How often a call has failed, a count that stays at 2^64 - 1 once it is there.
     ghost faults: { Self → ℕ };
 
-    /// How often `read` was called, a count that stays at 2^64 - 1 once it is there.
+    /// The count of reads, which stays at 2^64 - 1 once it is there.
     ghost reads: { Self → ℕ };
 
     /// While it holds, `read` never fails. It need never hold.

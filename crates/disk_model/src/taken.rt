@@ -16,6 +16,7 @@ pub struct Taken {
 impl Taken {
     pub fn new(alloc: Global, room: Option<u64>) -> Taken
         ensures bytes { result.bytes.items ≡ [] }
+        ensures room { result.room ≡ room }
         ensures faults { result.faults ≡ 0 }
     {
         Taken {

@@ -1,6 +1,6 @@
-ghost use Rattle.std.specs.Prelude.{◌≡◌, ◌≤◌, IsOk};
+ghost use Rattle.std.specs.Prelude.{◌≡◌, ◌≤◌, ◌+◌, ◌%◌, ◌^◌, is_err, IsOk};
 ghost use Rattle.disk_model.specs.Images.{Rose, HasCause};
-ghost use Rattle.disk_model.specs.Plans.{IsEmptyPlan};
+ghost use Rattle.disk_model.specs.Plans.{IsEmptyPlan, fails_at};
 
 use crate::{FailPlan, Failed};
 
@@ -27,6 +27,7 @@ impl Turns {
     /// Counts a fault.
     pub fn fail(&mut self) -> Failed
         ensures plan { self.new.plan ≡ self.old.plan }
+        ensures made { self.new.made ≡ self.old.made }
         ensures later { self.old.faults ≤ self.new.faults }
         ensures rose { Rose self.old.faults self.new.faults }
     {
@@ -37,6 +38,8 @@ impl Turns {
     /// Counts a call, and a fault where the plan wants one.
     pub fn begin(&mut self) -> Result<(), Failed>
         ensures plan { self.new.plan ≡ self.old.plan }
+        ensures counted { self.new.made ≡ (self.old.made + 1) % 2 ^ 64 }
+        ensures exact { is_err result ≡ fails_at self.old.plan self.new.made }
         ensures never { IsEmptyPlan self.old.plan → IsOk result }
         ensures cause { HasCause self.old.faults self.new.faults result }
     {

@@ -1,6 +1,6 @@
 //! The devices over a real directory.
 
-ghost use Rattle.std.specs.Prelude.{◌≡◌, ◌≤◌, ℕ, None, false, IfOk};
+ghost use Rattle.std.specs.Prelude.{◌≡◌, ◌≤◌, ℕ, None, true, false, IfOk};
 ghost use Rattle.pebbles_cli.specs.Silent.{nothing_told, no_table_files};
 
 use crate::faults::Faults;
@@ -32,11 +32,19 @@ pub struct RealDevices<R: Files + AllocGlobal + Clone + Drop> {
 }
 
 impl<R: Files + AllocGlobal + Clone + Drop> RealDevices<R> {
-    ghost use Rattle.pebbles_cli.specs.Gone.{gone_of};
+    ghost use Rattle.pebbles_cli.specs.Gone.{gone_of, gone_by};
     ghost use Rattle.disk_model.specs.Tables.{none_gone};
 
     /// Devices whose directory isn't chosen yet. They keep the runtime.
-    pub fn new(rt: R) -> RealDevices<R> {
+    pub fn new(rt: R) -> RealDevices<R>
+        ensures trust { result.is_trusted ≡ true }
+        ensures journal_faults { result.journal_faults.count ≡ 0 }
+        ensures faults { result.faults.count ≡ 0 }
+        ensures reads { result.reads ≡ 0 }
+        ensures taken { result.taken ≡ 0 }
+        ensures gone { gone_by result.makers ≡ none_gone }
+        ensures table_faults { result.table_faults.count ≡ 0 }
+    {
         RealDevices {
             rt,
             folder: None,

@@ -23,7 +23,8 @@ pub struct RealJournal<R: Files + AllocGlobal + Clone + Drop> {
 impl<R: Files + AllocGlobal + Clone + Drop> RealJournal<R> {
     /// The journal in this directory, with the faults that were counted before and whether its syncs are trusted.
     pub fn new(folder: JournalFolder<R>, is_trusted: bool, faults: Faults) -> RealJournal<R>
-        ensures { result.faults ≡ faults }
+        ensures trust { result.is_trusted ≡ is_trusted }
+        ensures faults { result.faults ≡ faults }
     {
         RealJournal {
             folder,

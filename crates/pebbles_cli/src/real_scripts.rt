@@ -28,7 +28,9 @@ pub struct RealScripts<R: Files + AllocGlobal + Clone + Drop> {
 
 impl<R: Files + AllocGlobal + Clone + Drop> RealScripts<R> {
     /// Scripts of which none is open. They keep the runtime.
-    pub fn new(rt: R) -> RealScripts<R> {
+    pub fn new(rt: R) -> RealScripts<R>
+        ensures { result.faults.count ≡ 0 }
+    {
         RealScripts {
             rt,
             opened: None,

@@ -21,7 +21,10 @@ pub struct RealSinks<R: Files + Print + AllocGlobal + Clone + Drop> {
 
 impl<R: Files + Print + AllocGlobal + Clone + Drop> RealSinks<R> {
     /// Sinks of which none was handed back. They keep the runtime.
-    pub fn new(rt: R) -> RealSinks<R> {
+    pub fn new(rt: R) -> RealSinks<R>
+        ensures returned { result.returned ≡ Returned.Nothing }
+        ensures faults { result.faults.count ≡ 0 }
+    {
         RealSinks {
             rt,
             returned: Returned::Nothing,
