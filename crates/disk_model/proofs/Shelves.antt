@@ -7,9 +7,10 @@ use Rattle.std.specs.Arc.{arc_value}
 use Rattle.disk_model.specs.declared.mem_table_file.MemTableFile.{MemTableFile}
 use Rattle.disk_model.specs.declared.made.Made.{Made}
 use Rattle.disk_model.specs.declared.shelf.Shelf.{Shelf}
-use Rattle.disk_model.specs.Tables.{Sealed, Gone, StaysOrGoes, is_among, is_gone, joined}
+use Rattle.disk_model.specs.declared.pick.Pick.{Pick}
+use Rattle.disk_model.specs.Tables.{Sealed, Gone, IsTableImage, StaysOrGoes, is_among, is_gone, joined}
 use Rattle.disk_model.specs.TableLists.{table_bytes, table_in}
-use Rattle.disk_model.specs.Shelf.{kept_by, gone_of, gone_by, begun_by, is_begun, without}
+use Rattle.disk_model.specs.Shelf.{kept_by, gone_of, gone_by, begun_by, is_begun, is_lost, is_taken_away, without}
 
 table_in-append : (a b : List MemTableFile) (n : ℕ) → table_in (a ++ b) n ≡ option_or (table_in a n) (table_in b n)
 table_in-append [] b n = refl
@@ -89,3 +90,11 @@ made_begun made old taken is n holds =
       by true lost here begun none = absurd (cc)
       by false lost true begun so = inr (begun_here made.begun n begun)
       by false lost false begun so = inl (ap (λ b. not b && begun_by old n) (gone_before (gone_by old) made n lost) ∙ so)
+
+-- what a pick leaves is what a crash may leave
+pub lost_left : (pick : Pick) (shelf : Shelf) (left : Sealed) → ((n : ℕ) → left n ≡ without (is_lost pick (gone_by shelf)) (kept_by shelf) n) → IsTableImage (kept_by shelf) (gone_by shelf) left
+lost_left pick shelf left same n = by (is_taken_away pick n) (is_gone (gone_by shelf) n) refl (same n) where
+  by : (taken gone : Bool) → is_gone (gone_by shelf) n ≡ gone → left n ≡ cond (taken && gone) None (kept_by shelf n) → StaysOrGoes (gone_by shelf) n (kept_by shelf n) (left n)
+  by true true is e = inr (is, e)
+  by true false is e = inl e
+  by false gone is e = inl e

@@ -1,5 +1,6 @@
-ghost use Rattle.std.specs.Prelude.{◌≡◌, ◌⊎◌, ◌≤◌, ◌+◌, ℕ, Some, IsTrue, IfOk, OnErr, MatchResult};
+ghost use Rattle.std.specs.Prelude.{◌≡◌, ◌⊎◌, ◌≤◌, ◌+◌, ℕ, Some, IsTrue, IfOk, OnOk, OnErr, MatchResult};
 ghost use Rattle.std.specs.Option.{option_or};
+ghost use Rattle.disk_model.specs.Directories.{Directories, after_choice, after_opening};
 ghost use Rattle.disk_model.specs.Images.{Image, HasCause};
 ghost use Rattle.disk_model.specs.Tables.{Sealed, TableFiles, Tally, TablesStay, IsNewMaker, IsTableImage, StaysOrGoes, with_port, with_maker, capped};
 ghost use Rattle.disk_model.specs.Told.{TellsTheSame};
@@ -9,7 +10,8 @@ use crate::{Failed, Journal, Maker, Port, TableHandle};
 /// Where a store keeps its files: it hands out the journal, ports and makers, and takes them back.
 ///
 /// What it tells of the journal is what the journal told when it was last at hand. What it tells of tables
-/// counts what the makers and ports did that were handed back.
+/// counts what the makers and ports did that were handed back. What it tells of directories says which one it was
+/// asked for, and of which one its journal is.
 pub trait Devices {
     type J: Journal + Send;
 
@@ -55,10 +57,15 @@ pub trait Devices {
     /// While it holds, the ports' `read` never fails. It need never hold.
     ghost ports_steady: { Self → Type 0 };
 
+    /// Which directory was chosen last, of which one the journal was handed out last, and how often each was done.
+    ghost directories: { Self → Directories };
+
     /// Chooses the directory by its name. It changes nothing that is told of files.
     ///
-    /// `Failed` comes only where the count of faults rose.
+    /// `Failed` comes only where the count of faults rose, and the directory is then as before.
     fn set(&mut self, dir: &str) -> Result<(), Failed>
+        ensures chosen { OnOk result (directories self.new ≡ after_choice dir.now (directories self.old)) }
+        ensures unchosen { OnErr result (directories self.new ≡ directories self.old) }
         ensures told { TellsTheSame (seen self.old) (seen self.new) (may_leave self.old) (may_leave self.new)
             (moment self.old) (moment self.new) (left_since self.old) (left_since self.new)
             (journal_faults self.old) (journal_faults self.new) }
@@ -68,11 +75,13 @@ pub trait Devices {
         ensures table_faults { table_faults self.new ≡ table_faults self.old }
         ensures cause { HasCause (faults self.old) (faults self.new) result };
 
-    /// Hands out the journal, which tells what the devices told of it. What they tell of it while it is out is
+    /// Hands out the journal of the directory, which tells what the devices told of it. What they tell of it while it is out is
     /// open; what they tell of tables stays.
     ///
     /// `Failed` comes only where the count of faults rose, and changes nothing that is told.
     fn journal(&mut self) -> Result<Self::J, Failed>
+        ensures opened { OnOk result (directories self.new ≡ after_opening (directories self.old)) }
+        ensures unopened { OnErr result (directories self.new ≡ directories self.old) }
         ensures journal { IfOk result (λ journal.
             TellsTheSame (seen self.old) (Self.J.seen journal) (may_leave self.old) (Self.J.may_leave journal)
             (moment self.old) (Self.J.moment journal) (left_since self.old) (Self.J.left_since journal)
@@ -92,6 +101,7 @@ pub trait Devices {
     ///
     /// `Failed` comes only where the count of faults of tables rose.
     fn port(&mut self) -> Result<Self::P, Failed>
+        ensures directories { directories self.new ≡ directories self.old }
         ensures files { IfOk result (λ port. Self.P.table_files port ≡ table_files self.old) }
         ensures unused { IfOk result (λ port. (Self.P.faults port ≡ 0) × (Self.P.reads port ≡ 0)) }
         ensures port_steady { ports_steady self.old → IfOk result (λ port. Self.P.steady port) }
@@ -108,6 +118,7 @@ pub trait Devices {
     ///
     /// `Failed` comes only where the count of faults of tables rose.
     fn maker(&mut self) -> Result<Self::M, Failed>
+        ensures directories { directories self.new ≡ directories self.old }
         ensures new { IfOk result (λ maker. IsNewMaker (Self.M.faults maker) (Self.M.taken maker)
             (Self.M.gone maker) (Self.M.begun maker) (Self.M.sealed maker)) }
         ensures told { TellsTheSame (seen self.old) (seen self.new) (may_leave self.old) (may_leave self.new)
@@ -121,6 +132,7 @@ pub trait Devices {
 
     /// Takes a journal back. The devices then tell of it what it told itself.
     fn back(&mut self, journal: Self::J)
+        ensures directories { directories self.new ≡ directories self.old }
         ensures told { TellsTheSame (Self.J.seen journal) (seen self.new) (Self.J.may_leave journal) (may_leave self.new)
             (Self.J.moment journal) (moment self.new) (Self.J.left_since journal) (left_since self.new)
             (Self.J.faults journal) (journal_faults self.new) }
@@ -132,6 +144,7 @@ pub trait Devices {
 
     /// Takes a port back, and adds its counts.
     fn back_port(&mut self, port: Self::P)
+        ensures directories { directories self.new ≡ directories self.old }
         ensures reads { tally self.new ≡ with_port (Self.P.reads port) (tally self.old) }
         ensures table_faults { table_faults self.new ≡ capped (table_faults self.old + Self.P.faults port) }
         ensures files { table_files self.new ≡ table_files self.old }
@@ -148,6 +161,7 @@ pub trait Devices {
     /// A table that no maker which was handed back has retired or removed is there. One that was may be there
     /// still, or not.
     fn back_maker(&mut self, maker: Self::M)
+        ensures directories { directories self.new ≡ directories self.old }
         ensures done { tally self.new ≡ with_maker (Self.M.taken maker) (Self.M.gone maker) (tally self.old) }
         ensures table_faults { table_faults self.new ≡ capped (table_faults self.old + Self.M.faults maker) }
         ensures kept { IsTrue Self.F.tells → (n : ℕ) → kept self.new n ≡ option_or (Self.M.sealed maker n) (kept self.old n) }

@@ -2,6 +2,7 @@ ghost use Rattle.std.specs.Prelude.{◌≡◌, ℕ, None, Some, IfOk};
 ghost use Rattle.std.specs.Arc.{arc_value};
 ghost use Rattle.std.specs.Option.{option_copied};
 ghost use Rattle.disk_model.specs.declared.pick.Pick.TheVariants.{Old, New};
+ghost use Rattle.disk_model.specs.Directories.{no_directories};
 ghost use Rattle.disk_model.specs.Files.{changed};
 ghost use Rattle.disk_model.specs.Images.{IsAtRest};
 ghost use Rattle.disk_model.specs.Plans.{IsEmptyPlan};
@@ -13,8 +14,8 @@ use crate::kind_turns::KindTurns;
 use crate::shelf::Shelf;
 use crate::stock::Stock;
 use crate::{
-    Devices, FailPlan, Failed, Journal, JournalFile, MemJournal, MemMaker, MemPort, MemTableFile,
-    Pick, Plans, Port,
+    Devices, Directories, FailPlan, Failed, Journal, JournalFile, MemJournal, MemMaker, MemPort,
+    MemTableFile, Pick, Plans, Port,
 };
 use peb_base::Memory;
 use std::alloc::{AllocError, Global};
@@ -29,6 +30,8 @@ pub struct MemDevices {
     ports: Arc<KindTurns>,
     makers: Arc<KindTurns>,
     stock: Stock,
+    directories: Directories,
+    faults: u64,
 }
 
 impl MemDevices {
@@ -49,6 +52,7 @@ impl MemDevices {
             (⟦<MemDevices as Devices>⟧.kept devices) (⟦<MemDevices as Devices>⟧.tally devices)) }
         ensures table_faults { IfOk result (λ devices. ⟦<MemDevices as Devices>⟧.table_faults devices ≡ 0) }
         ensures ports_steady { IsEmptyPlan plans.port → IfOk result (λ devices. ⟦<MemDevices as Devices>⟧.ports_steady devices) }
+        ensures directories { IfOk result (λ devices. ⟦<MemDevices as Devices>⟧.directories devices ≡ no_directories) }
     {
         let journal = MemJournal::new(alloc, plans.journal);
         let ports = Arc::new(alloc, KindTurns::new(plans.port))?;
@@ -59,11 +63,13 @@ impl MemDevices {
             ports,
             makers,
             stock: Stock::resting(Vec::new(alloc)),
+            directories: Directories::none(),
+            faults: 0,
         })
     }
 
     /// The devices after a crash: they hold one image that the crash may leave, and no call of them fails by
-    /// a plan. `Old` takes of each file what its last sync or removal left, and each table that was retired or
+    /// a plan, and no directory is chosen yet. `Old` takes of each file what its last sync or removal left, and each table that was retired or
     /// removed; `New` takes what reads give. No table that was begun and not sealed is left.
     ///
     /// Memory is the one refusal; the devices are then gone.
@@ -87,6 +93,7 @@ impl MemDevices {
             (⟦<MemDevices as Devices>⟧.kept after) (⟦<MemDevices as Devices>⟧.tally after)) }
         ensures table_faults { IfOk result (λ after. ⟦<MemDevices as Devices>⟧.table_faults after ≡ 0) }
         ensures ports_steady { IfOk result (λ after. ⟦<MemDevices as Devices>⟧.ports_steady after) }
+        ensures directories { IfOk result (λ after. ⟦<MemDevices as Devices>⟧.directories after ≡ no_directories) }
     {
         let alloc = self.alloc;
         let tables = self.stock.shelf.leave(alloc, pick)?;
@@ -96,6 +103,8 @@ impl MemDevices {
             ports: Arc::new(alloc, KindTurns::new(FailPlan::empty(alloc)))?,
             makers: Arc::new(alloc, KindTurns::new(FailPlan::empty(alloc)))?,
             stock: Stock::resting(tables),
+            directories: Directories::none(),
+            faults: 0,
         })
     }
 
@@ -118,9 +127,11 @@ impl MemDevices {
             (⟦<MemDevices as Devices>⟧.ports_steady self) (⟦<MemDevices as Devices>⟧.ports_steady after)) }
         ensures table_faults { IfOk result (λ after.
             ⟦<MemDevices as Devices>⟧.table_faults after ≡ ⟦<MemDevices as Devices>⟧.table_faults self) }
+        ensures directories { IfOk result (λ after. ⟦<MemDevices as Devices>⟧.directories after ≡ ⟦<MemDevices as Devices>⟧.directories self) }
     {
         Ok(MemDevices {
             journal: self.journal.with_file(file, bytes)?,
+            faults: 0,
             ..self
         })
     }
@@ -146,6 +157,7 @@ impl MemDevices {
             (⟦<MemDevices as Devices>⟧.journal_faults self) (⟦<MemDevices as Devices>⟧.journal_faults after)) }
         ensures steady { ⟦<MemDevices as Devices>⟧.steady self → IfOk result (λ after. ⟦<MemDevices as Devices>⟧.steady after) }
         ensures faults { IfOk result (λ after. ⟦<MemDevices as Devices>⟧.faults after ≡ ⟦<MemDevices as Devices>⟧.faults self) }
+        ensures directories { IfOk result (λ after. ⟦<MemDevices as Devices>⟧.directories after ≡ ⟦<MemDevices as Devices>⟧.directories self) }
     {
         let mut tables = self.stock.shelf.leave(self.alloc, Pick::New)?;
         let table = MemTableFile::new(self.alloc, number, bytes)?;
@@ -214,7 +226,7 @@ impl Devices for MemDevices {
 
     ghost steady = { λ d. ⟦<MemJournal as Journal>⟧.steady d.journal };
 
-    ghost faults = { λ _. 0 };
+    ghost faults = { λ d. d.faults };
 
     ghost table_files = { λ d. files_of d.stock.shelf };
 
@@ -226,6 +238,8 @@ impl Devices for MemDevices {
 
     ghost ports_steady = { λ d. IsEmptyPlan (arc_value d.ports).plan };
 
+    ghost directories = { λ d. d.directories };
+
     ghost counts_now = { λ d t image le now. left_now (image_of d.journal.first.items) (reverse d.journal.past.items) t image now };
 
     ghost only_now = { λ d image left. only_left (image_of d.journal.first.items) (reverse d.journal.past.items) image left };
@@ -234,12 +248,22 @@ impl Devices for MemDevices {
 
     ghost there_is_left = { λ d told. there_left d.stock.shelf };
 
-    fn set(&mut self, _dir: &str) -> Result<(), Failed> {
-        Ok(())
+    fn set(&mut self, dir: &str) -> Result<(), Failed> {
+        match String::from_str(self.alloc, dir) {
+            Ok(name) => {
+                self.directories.choose(name);
+                Ok(())
+            }
+            Err(_) => {
+                self.faults = self.faults.saturating_add(1);
+                Err(Failed)
+            }
+        }
     }
 
     fn journal(&mut self) -> Result<MemJournal, Failed> {
         let none = MemJournal::new(self.alloc, FailPlan::empty(self.alloc));
+        self.directories.open();
         Ok(mem::replace(&mut self.journal, none))
     }
 

@@ -1,11 +1,12 @@
 use crate::returned::Returned;
 use crate::taken::Taken;
-use crate::{Failed, Sink};
+use crate::{Failed, Label, Sink};
 
 /// The sink of one client in memory. It brings the place in which it is kept once it is handed back.
 #[derive(Drop)]
 pub struct MemSink {
     pub taken: Taken,
+    pub label: Label,
     pub place: Box<Returned>,
 }
 
@@ -13,6 +14,8 @@ impl Sink for MemSink {
     ghost use Rattle.std.specs.Prelude.{Some};
 
     ghost taken = { λ s. Some s.taken.bytes.items };
+
+    ghost label = { λ s. s.label };
 
     ghost faults = { λ s. s.taken.faults };
 

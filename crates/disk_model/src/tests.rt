@@ -137,6 +137,7 @@ fn a_sink_past_its_room_takes_what_fits(rt: HostRuntime) -> Result<(), Fail> {
     assert_eq!(rt; sinks.bytes_of(1), Some(b"abc".as_slice()));
     assert_eq!(rt; sinks.bytes_of(2), Some(b"efgh".as_slice()));
     assert_eq!(rt; sinks.bytes_of(3), None);
+    assert_eq!(rt; sinks.name_of(2), Some("b.txt"));
     assert_eq!(rt; sinks.report_bytes(), b"l".as_slice());
     Ok(())
 }
