@@ -19,8 +19,8 @@ pub record SinkNames : Type 0 where
   pub returned : ℕ → Option Label
 
 -- one sink more was opened
-abbrev pub after_opening : SinkNames → SinkNames
-after_opening names = record names { opened = capped (names.opened + 1) }
+abbrev pub after_client : SinkNames → SinkNames
+after_client names = record names { opened = capped (names.opened + 1) }
 
 -- a sink with this label was handed back for this client
 abbrev pub after_return : ℕ → Label → SinkNames → SinkNames

@@ -1,7 +1,7 @@
 ghost use Rattle.std.specs.Prelude.{◌≡◌, ◌≢◌, ℕ, List, Option, IfOk, OnOk, OnErr};
 ghost use Rattle.disk_model.specs.Images.{HasCause};
 ghost use Rattle.disk_model.specs.Bytes.{Takes, IsFresh};
-ghost use Rattle.disk_model.specs.SinkNames.{SinkNames, after_opening, after_return};
+ghost use Rattle.disk_model.specs.SinkNames.{SinkNames, after_client, after_return};
 
 use crate::{Failed, Sink};
 
@@ -34,7 +34,7 @@ pub trait Sinks {
         ensures fresh { IfOk result (λ one. IsFresh (Self.One.taken one)) }
         ensures unused { IfOk result (λ one. Self.One.faults one ≡ 0) }
         ensures label { IfOk result (λ one. Self.One.label one ≡ record { client = index; name = name.now }) }
-        ensures opened { OnOk result (names self.new ≡ after_opening (names self.old)) }
+        ensures opened { OnOk result (names self.new ≡ after_client (names self.old)) }
         ensures unopened { OnErr result (names self.new ≡ names self.old) }
         ensures report { reported self.new ≡ reported self.old }
         ensures others { (i : ℕ) → took self.new i ≡ took self.old i }

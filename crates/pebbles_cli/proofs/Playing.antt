@@ -56,10 +56,10 @@ run_is_after causes.Usage journal sinks client tells seen run before = run
 run_is_after (causes.Script i line why) journal sinks client tells seen run before = run
 run_is_after (causes.Source i) journal sinks client tells seen run before = run
 
-pub plays_from : {known tells honest : Bool} {base : Batches} {seen : Image} {moment : ℕ} {took0 took reported0 reported : Option (List ℕ)} {may_leave : Image → Type 0} {cause : Cause} (text : Option (List ℕ)) (commands : List Command)
+pub plays_from : {uses : Bool → Type 0} {known tells honest : Bool} {base : Batches} {seen : Image} {moment : ℕ} {took0 took reported0 reported : Option (List ℕ)} {may_leave : Image → Type 0} {cause : Cause} (text : Option (List ℕ)) (commands : List Command)
     → Says text commands
-    → NotRun honest base took0 took reported0 reported may_leave cause ⊎ RanOn known tells honest base seen moment commands took reported0 reported may_leave cause
-    → Plays known tells honest base seen moment text took0 took reported0 reported may_leave cause
+    → NotRun uses honest base took0 took reported0 reported may_leave cause ⊎ RanOn uses known tells honest base seen moment commands took reported0 reported may_leave cause
+    → Plays uses known tells honest base seen moment text took0 took reported0 reported may_leave cause
 plays_from text commands says (inl not) = inl not
 plays_from text commands says (inr ran) = inr (commands, says, ran)
 

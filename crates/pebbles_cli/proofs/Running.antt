@@ -180,9 +180,9 @@ ran_from tells session start answered commands text fault failed closing told_cl
 
 -- ---- a run that didn't begin
 
-pub not_run : (honest : Bool) (base : Batches) (took took' reported reported' : Option (List ℕ)) (may_leave : Image → Type 0) (cause : Cause) → cause ≢ causes.Done → took' ≡ took → reported' ≡ reported
-    → (IsTrue honest → (image : Image) → may_leave image → Stands base image) → NotRun honest base took took' reported reported' may_leave cause
-not_run honest base took took' reported reported' may_leave cause fault one two left = record { fault = fault; no_reply = one; no_report = two; left = left }
+pub not_run : {uses : Bool → Type 0} (honest : Bool) (base : Batches) (took took' reported reported' : Option (List ℕ)) (may_leave : Image → Type 0) (cause : Cause) → cause ≢ causes.Done → took' ≡ took → reported' ≡ reported → uses false
+    → (IsTrue honest → (image : Image) → may_leave image → Stands base image) → NotRun uses honest base took took' reported reported' may_leave cause
+not_run honest base took took' reported reported' may_leave cause fault one two names left = record { fault = fault; no_reply = one; no_report = two; names = names; left = left }
 
 pub memory_is_fault : causes.Memory ≢ causes.Done
 memory_is_fault = λ e. absurd cc

@@ -1,5 +1,6 @@
 pub mod Causes
 pub mod Gone
+pub mod Names
 pub mod Read
 pub mod Returning
 pub mod Shows

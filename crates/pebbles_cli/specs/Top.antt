@@ -1,5 +1,5 @@
 -- What a run does.
-use Rattle.std.specs.Prelude.{◌≡◌, ◌≢◌, ◌⊎◌, ℕ, suc, ◌*◌, ◌^◌, ◌<◌, IsTrue, Bool, false, List, [], take, Option, Some, None, Result}
+use Rattle.std.specs.Prelude.{◌≡◌, ◌≢◌, ◌⊎◌, ℕ, suc, ◌*◌, ◌^◌, ◌<◌, IsTrue, Bool, true, false, List, [], take, Option, Some, None, Result}
 use Rattle.peb_base.specs.Batches.{Batches, last_number}
 use Rattle.script.specs.declared.cause.Cause.{Cause}
 use Rattle.script.specs.declared.cause.Cause.TheVariants as causes
@@ -68,21 +68,23 @@ pub record IsNext (base : Batches) (seen : Image) (session : ℕ) : Type 0 where
   pub after : session ≡ suc (greatest_session logs)
   pub above : last_number base < session * 2 ^ 40
 
--- no command was run: nothing was replied or reported, and each image stands for the base as before
-pub record NotRun (honest : Bool) (base : Batches) (took0 took reported0 reported : Option (List ℕ)) (may_leave : Image → Type 0) (cause : Cause) : Type 0 where
+-- no command was run: nothing was replied or reported, and each image stands for the base as before; which names were used is told by `uses`
+pub record NotRun (uses : Bool → Type 0) (honest : Bool) (base : Batches) (took0 took reported0 reported : Option (List ℕ)) (may_leave : Image → Type 0) (cause : Cause) : Type 0 where
   pub fault : cause ≢ causes.Done
   pub no_reply : took ≡ took0
   pub no_report : reported ≡ reported0
+  pub names : uses false
   pub left : IsTrue honest → (image : Image) → may_leave image → Stands base image
 
--- these commands were run over a base, in a session that is the next one where the base is what the image stands for
-pub record RanOn (known tells honest : Bool) (base : Batches) (seen : Image) (moment : ℕ) (commands : List Command) (took reported0 reported : Option (List ℕ)) (may_leave : Image → Type 0) (cause : Cause) : Type 0 where
+-- these commands were run over a base, in a session that is the next one where the base is what the image stands for; which names were used is told by `uses`
+pub record RanOn (uses : Bool → Type 0) (known tells honest : Bool) (base : Batches) (seen : Image) (moment : ℕ) (commands : List Command) (took reported0 reported : Option (List ℕ)) (may_leave : Image → Type 0) (cause : Cause) : Type 0 where
   pub session : ℕ
+  pub names : uses true
   pub next : IsTrue known → IsNext base seen session
   pub ran : Ran tells session (opened moment honest base) commands took reported0 reported may_leave cause
 
 -- the script's commands were run over a base, or none
-abbrev pub Plays : Bool → Bool → Bool → Batches → Image → ℕ → Option (List ℕ) → Option (List ℕ) → Option (List ℕ) → Option (List ℕ) → Option (List ℕ) → (Image → Type 0) → Cause → Type 0
-Plays known tells honest base seen moment text took0 took reported0 reported may_leave cause =
-    NotRun honest base took0 took reported0 reported may_leave cause
-    ⊎ ((commands : List Command) × Says text commands × RanOn known tells honest base seen moment commands took reported0 reported may_leave cause)
+abbrev pub Plays : (Bool → Type 0) → Bool → Bool → Bool → Batches → Image → ℕ → Option (List ℕ) → Option (List ℕ) → Option (List ℕ) → Option (List ℕ) → Option (List ℕ) → (Image → Type 0) → Cause → Type 0
+Plays uses known tells honest base seen moment text took0 took reported0 reported may_leave cause =
+    NotRun uses honest base took0 took reported0 reported may_leave cause
+    ⊎ ((commands : List Command) × Says text commands × RanOn uses known tells honest base seen moment commands took reported0 reported may_leave cause)

@@ -40,6 +40,7 @@ pub fn settle<S: Store>(store: &mut S) -> Option<Cause>
 pub fn write_report<K: Sinks>(alloc: Global, sinks: &mut K, last: Number) -> Option<Cause>
     ensures reports { Reports last result (K.reported sinks.old) (K.reported sinks.new) }
     ensures cause { ReportCause (Rose (K.faults sinks.old) (K.faults sinks.new)) result }
+    ensures names { K.names sinks.new ≡ K.names sinks.old }
     ensures later { K.faults sinks.old ≤ K.faults sinks.new }
     ensures others { (i : ℕ) → K.took sinks.new i ≡ K.took sinks.old i }
     ensures counts { (i : ℕ) → K.client_faults sinks.new i ≡ K.client_faults sinks.old i }

@@ -1,5 +1,7 @@
 //! The directory of a store.
 
+ghost use Rattle.std.specs.Prelude.{◌≡◌, IfOk, string_bytes};
+
 use std::alloc::AllocError;
 use std::fmt::Display;
 use std::fs::{File, OpenFile};
@@ -16,19 +18,25 @@ pub struct Folder<R: Files + AllocGlobal + Clone + Drop> {
 
 impl<R: Files + AllocGlobal + Clone + Drop> Folder<R> {
     /// The directory of this name.
-    pub fn new(rt: R, name: String) -> Folder<R> {
+    pub fn new(rt: R, name: String) -> Folder<R>
+        ensures { result.name ≡ name }
+    {
         Folder { rt, name }
     }
 
     /// The same directory.
-    pub fn copy(&self) -> Result<Folder<R>, AllocError> {
+    pub fn copy(&self) -> Result<Folder<R>, AllocError>
+        ensures { IfOk result (λ folder. string_bytes folder.name ≡ string_bytes self.now.name) }
+    {
         Ok(Folder {
             rt: self.rt.clone()?,
             name: self.name.clone()?,
         })
     }
 
-    pub fn name(&self) -> &str {
+    pub fn name(&self) -> &str
+        ensures { result.now ≡ string_bytes self.now.name }
+    {
         self.name.as_str()
     }
 

@@ -33,7 +33,9 @@ pub struct JournalFolder<R: Files + AllocGlobal + Clone + Drop> {
 
 impl<R: Files + AllocGlobal + Clone + Drop> JournalFolder<R> {
     /// The journal in this directory.
-    pub fn new(folder: Folder<R>) -> JournalFolder<R> {
+    pub fn new(folder: Folder<R>) -> JournalFolder<R>
+        ensures { result.folder ≡ folder }
+    {
         JournalFolder {
             folder,
             opened: None,

@@ -1,5 +1,6 @@
-ghost use Rattle.std.specs.Prelude.{◌≡◌, ◌≢◌, ◌⊎◌, ◌≤◌, ℕ, suc, ◌*◌, ◌^◌, ◌<◌, Bool, true, false, IsTrue, IfOk, IfErr};
+ghost use Rattle.std.specs.Prelude.{◌≡◌, ◌≢◌, ◌⊎◌, ◌≤◌, ℕ, suc, ◌*◌, ◌^◌, ◌<◌, Bool, true, false, IsTrue, IfOk, IfErr, OnOk, OnErr};
 ghost use Rattle.disk_model.specs.Images.{Image, Rose};
+ghost use Rattle.disk_model.specs.Directories.{after_choice, after_opening};
 ghost use Rattle.peb_base.specs.Batches.{Batches, last_number};
 ghost use Rattle.flsm_core.specs.Device.{device};
 ghost use Rattle.flsm_core.specs.Place.{Place, opened, all_of};
@@ -9,6 +10,7 @@ ghost use Rattle.flsm_core.specs.Standing.{IsAt, Leaves};
 ghost use Rattle.flsm_core.specs.State.{state_session, state_journal};
 ghost use Rattle.script.specs.declared.cause.Cause.TheVariants as causes;
 ghost use Rattle.pebbles_cli.specs.Causes.{RunCause, opening_cause};
+ghost use Rattle.pebbles_cli.specs.Names.{OpensAtMost};
 ghost use Rattle.pebbles_cli.specs.Top.{IsNext};
 
 use disk_model::Devices;
@@ -35,6 +37,8 @@ pub fn open_store<D: Devices>(
     dir: &str,
     devices: &mut D,
 ) -> Result<State<D::J>, Cause>
+    ensures opened { OnOk result (D.directories devices.new ≡ after_opening (after_choice dir.now (D.directories devices.old))) }
+    ensures refused { OnErr result (OpensAtMost dir.now (D.directories devices.old) (D.directories devices.new)) }
     ensures stands { IfOk result (λ state. IsTrue D.J.tells → (honest : Bool) (base : Batches) → OpensOn honest base (D.seen devices.old) (D.may_leave devices.old)
         → IsAt (device D.J.tells D.J.seen D.J.may_leave D.J.moment D.J.left_since) state (opened (D.moment devices.old) honest base)) }
     ensures some { IfOk result (λ state. (base : Batches) × IsAt (device D.J.tells D.J.seen D.J.may_leave D.J.moment D.J.left_since) state (opened (D.moment devices.old) false base)) }
@@ -68,6 +72,7 @@ pub fn open_store<D: Devices>(
 pub fn close_store<D: Devices>(devices: &mut D, state: State<D::J>)
     ensures left { IsTrue D.J.tells → (p : Place) → IsAt (device D.J.tells D.J.seen D.J.may_leave D.J.moment D.J.left_since) state p → IsTrue p.honest
         → (image : Image) → D.may_leave devices.new image → Leaves p.settled (all_of p) image }
+    ensures directories { D.directories devices.new ≡ D.directories devices.old }
     ensures count { D.journal_faults devices.new ≡ D.J.faults (state_journal state) }
     ensures faults { D.faults devices.new ≡ D.faults devices.old }
 {

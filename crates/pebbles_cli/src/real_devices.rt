@@ -1,6 +1,7 @@
 //! The devices over a real directory.
 
-ghost use Rattle.std.specs.Prelude.{◌≡◌, ◌≤◌, ℕ, None, true, false, IfOk};
+ghost use Rattle.std.specs.Prelude.{◌≡◌, ◌≤◌, ℕ, None, Some, true, false, IfOk, string_bytes};
+ghost use Rattle.disk_model.specs.Directories.{no_directories};
 ghost use Rattle.pebbles_cli.specs.Silent.{nothing_told, no_table_files};
 
 use crate::faults::Faults;
@@ -11,8 +12,7 @@ use crate::real_journal::RealJournal;
 use crate::real_maker::RealMaker;
 use crate::real_port::RealPort;
 use crate::real_table::RealTable;
-use disk_model::{Devices, Failed};
-use std::alloc::AllocError;
+use disk_model::{Devices, Directories, Failed};
 use std::io::ErrorKind;
 use std::rt::Files;
 use std::{io, mem};
@@ -21,7 +21,7 @@ use std::{io, mem};
 #[derive(Drop)]
 pub struct RealDevices<R: Files + AllocGlobal + Clone + Drop> {
     rt: R,
-    folder: Option<Folder<R>>,
+    directories: Directories,
     is_trusted: bool,
     journal_faults: Faults,
     faults: Faults,
@@ -37,6 +37,7 @@ impl<R: Files + AllocGlobal + Clone + Drop> RealDevices<R> {
 
     /// Devices whose directory isn't chosen yet. They keep the runtime.
     pub fn new(rt: R) -> RealDevices<R>
+        ensures directories { result.directories ≡ no_directories }
         ensures trust { result.is_trusted ≡ true }
         ensures journal_faults { result.journal_faults.count ≡ 0 }
         ensures faults { result.faults.count ≡ 0 }
@@ -47,7 +48,7 @@ impl<R: Files + AllocGlobal + Clone + Drop> RealDevices<R> {
     {
         RealDevices {
             rt,
-            folder: None,
+            directories: Directories::none(),
             is_trusted: true,
             journal_faults: Faults::none(),
             faults: Faults::none(),
@@ -58,22 +59,20 @@ impl<R: Files + AllocGlobal + Clone + Drop> RealDevices<R> {
         }
     }
 
-    /// The directory of this name.
-    fn folder_of(&self, name: &str) -> Result<Folder<R>, AllocError> {
+    /// The directory that was chosen.
+    fn chosen(&self) -> io::Result<Folder<R>>
+        ensures { IfOk result (λ folder. Some (string_bytes folder.name) ≡ self.now.directories.chosen) }
+    {
+        let Some(name) = self.directories.chosen() else {
+            return Err(io::Error::from(ErrorKind::NotFound));
+        };
         let name = String::from_str(self.rt.alloc(), name)?;
         Ok(Folder::new(self.rt.clone()?, name))
     }
 
-    /// The directory that was chosen.
-    fn chosen(&self) -> io::Result<Folder<R>> {
-        match &self.folder {
-            Some(folder) => Ok(folder.copy()?),
-            None => Err(io::Error::from(ErrorKind::NotFound)),
-        }
-    }
-
     /// The journal in the directory that was chosen. It opens and makes nothing yet.
     fn open_journal(&self) -> io::Result<RealJournal<R>>
+        ensures directory { IfOk result (λ journal. Some (string_bytes journal.folder.folder.name) ≡ self.now.directories.chosen) }
         ensures faults { IfOk result (λ journal. journal.faults ≡ self.now.journal_faults) }
     {
         let files = JournalFolder::new(self.chosen()?);
@@ -132,6 +131,8 @@ impl<R: Files<File: Send> + AllocGlobal + Clone + Drop + Send + Sync> Devices fo
 
     ghost ports_steady = { λ _. ⊥ };
 
+    ghost directories = { λ devices. devices.directories };
+
     ghost counts_now = { λ devices t image le now. now };
 
     ghost only_now = { λ devices image left. left };
@@ -141,14 +142,17 @@ impl<R: Files<File: Send> + AllocGlobal + Clone + Drop + Send + Sync> Devices fo
     ghost there_is_left = { λ devices told. absurd (nothing_told told) };
 
     fn set(&mut self, dir: &str) -> Result<(), Failed> {
-        let folder = self.folder_of(dir);
-        self.folder = Some(self.faults.told(folder)?);
+        let name = String::from_str(self.rt.alloc(), dir);
+        let name = self.faults.told(name)?;
+        self.directories.choose(name);
         Ok(())
     }
 
     fn journal(&mut self) -> Result<RealJournal<R>, Failed> {
         let journal = self.open_journal();
-        self.faults.told(journal)
+        let journal = self.faults.told(journal)?;
+        self.directories.open();
+        Ok(journal)
     }
 
     fn port(&mut self) -> Result<RealPort<R>, Failed> {

@@ -23,6 +23,7 @@ pub struct RealJournal<R: Files + AllocGlobal + Clone + Drop> {
 impl<R: Files + AllocGlobal + Clone + Drop> RealJournal<R> {
     /// The journal in this directory, with the faults that were counted before and whether its syncs are trusted.
     pub fn new(folder: JournalFolder<R>, is_trusted: bool, faults: Faults) -> RealJournal<R>
+        ensures folder { result.folder ≡ folder }
         ensures trust { result.is_trusted ≡ is_trusted }
         ensures faults { result.faults ≡ faults }
     {

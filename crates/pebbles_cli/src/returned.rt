@@ -1,6 +1,8 @@
-/// How often the clients' sinks had failed that were handed back, the latest first.
+use disk_model::Label;
+
+/// The labels of the clients' sinks that were handed back, and how often they had failed, the latest first.
 #[derive(Drop)]
 pub enum Returned {
     Nothing,
-    Sink(u32, u64, Box<Returned>),
+    Sink(u32, Label, u64, Box<Returned>),
 }

@@ -1,6 +1,7 @@
 ghost use Rattle.std.specs.Prelude.{◌≡◌, ◌⊎◌, ◌≤◌, ◌++◌, ℕ, Bool, true, false, IsTrue, IfOk, Option, codes, string_bytes};
 ghost use Rattle.disk_model.specs.Images.{Image, Rose};
 ghost use Rattle.disk_model.specs.Bytes.{IsFresh};
+ghost use Rattle.disk_model.specs.SinkNames.{after_return};
 ghost use Rattle.peb_base.specs.Batches.{Batches};
 ghost use Rattle.flsm_core.specs.Device.{device};
 ghost use Rattle.flsm_core.specs.Place.{Place};
@@ -8,6 +9,7 @@ ghost use Rattle.flsm_core.specs.Opening.{OpensOn};
 ghost use Rattle.flsm_core.specs.Standing.{IsAt};
 ghost use Rattle.flsm_core.specs.State.{state_session, state_journal};
 ghost use Rattle.pebbles_cli.specs.Causes.{RunCause, end_of};
+ghost use Rattle.pebbles_cli.specs.Names.{Uses};
 ghost use Rattle.pebbles_cli.specs.Top.{Ran, RanOn, NotRun};
 
 use crate::closing::{settle, write_report};
@@ -56,6 +58,8 @@ fn run_opened<D: Devices, K: Sinks>(
     requires unused { K.One.faults replies ≡ 0 }
     ensures ran { (p : Place) → IsAt (device D.J.tells D.J.seen D.J.may_leave D.J.moment D.J.left_since) opened p → p.stopped ≡ false
         → Ran D.J.tells (state_session opened) p commands.items (K.took sinks.new 1) (K.reported sinks.old) (K.reported sinks.new) (D.may_leave devices.new) result }
+    ensures directories { D.directories devices.new ≡ D.directories devices.old }
+    ensures names { K.names sinks.new ≡ after_return 1 (K.One.label replies) (K.names sinks.old) }
     ensures count { D.J.faults (state_journal opened) ≤ D.journal_faults devices.new }
     ensures faults { D.faults devices.new ≡ D.faults devices.old }
     ensures sinks_later { K.faults sinks.old ≤ K.faults sinks.new }
@@ -83,10 +87,10 @@ pub fn run_commands<D: Devices, K: Sinks>(
     commands: Vec<Command>,
 ) -> Cause
     ensures ran { IsTrue D.J.tells → (honest : Bool) (base : Batches) → OpensOn honest base (D.seen devices.old) (D.may_leave devices.old)
-        → NotRun honest base (K.took sinks.old 1) (K.took sinks.new 1) (K.reported sinks.old) (K.reported sinks.new) (D.may_leave devices.new) result
-        ⊎ RanOn true D.J.tells honest base (D.seen devices.old) (D.moment devices.old) commands.items (K.took sinks.new 1) (K.reported sinks.old) (K.reported sinks.new) (D.may_leave devices.new) result }
-    ensures somehow { (base : Batches) × (NotRun false base (K.took sinks.old 1) (K.took sinks.new 1) (K.reported sinks.old) (K.reported sinks.new) (D.may_leave devices.new) result
-        ⊎ RanOn false D.J.tells false base (D.seen devices.old) (D.moment devices.old) commands.items (K.took sinks.new 1) (K.reported sinks.old) (K.reported sinks.new) (D.may_leave devices.new) result) }
+        → NotRun (Uses dir.now file.now (D.directories devices.old) (D.directories devices.new) (K.names sinks.old) (K.names sinks.new)) honest base (K.took sinks.old 1) (K.took sinks.new 1) (K.reported sinks.old) (K.reported sinks.new) (D.may_leave devices.new) result
+        ⊎ RanOn (Uses dir.now file.now (D.directories devices.old) (D.directories devices.new) (K.names sinks.old) (K.names sinks.new)) true D.J.tells honest base (D.seen devices.old) (D.moment devices.old) commands.items (K.took sinks.new 1) (K.reported sinks.old) (K.reported sinks.new) (D.may_leave devices.new) result }
+    ensures somehow { (base : Batches) × (NotRun (Uses dir.now file.now (D.directories devices.old) (D.directories devices.new) (K.names sinks.old) (K.names sinks.new)) false base (K.took sinks.old 1) (K.took sinks.new 1) (K.reported sinks.old) (K.reported sinks.new) (D.may_leave devices.new) result
+        ⊎ RanOn (Uses dir.now file.now (D.directories devices.old) (D.directories devices.new) (K.names sinks.old) (K.names sinks.new)) false D.J.tells false base (D.seen devices.old) (D.moment devices.old) commands.items (K.took sinks.new 1) (K.reported sinks.old) (K.reported sinks.new) (D.may_leave devices.new) result) }
     ensures cause { RunCause (Rose (D.faults devices.old) (D.faults devices.new) ⊎ Rose (D.journal_faults devices.old) (D.journal_faults devices.new))
         (Rose (K.faults sinks.old) (K.faults sinks.new)) (Rose 0 (K.client_faults sinks.new 1)) D.J.tells (D.seen devices.old) result }
 {

@@ -104,6 +104,7 @@ pub fn serve<S: Store, K: Sink>(
         × ((TookMore (K.taken sink.old) text (K.taken sink.new)) × Tells (TellsOne (S.session store.old)) old commands.items text result.fault result.sink_failed new)) }
     ensures session { S.session store.new ≡ S.session store.old }
     ensures store_later { S.faults store.old ≤ S.faults store.new }
+    ensures label { K.label sink.new ≡ K.label sink.old }
     ensures sink_later { K.faults sink.old ≤ K.faults sink.new }
     ensures journal { LineCause (Rose (S.faults store.old) (S.faults store.new)) result.fault }
     ensures sink { IsTrue result.sink_failed → Rose (K.faults sink.old) (K.faults sink.new) }

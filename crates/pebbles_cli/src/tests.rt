@@ -90,6 +90,7 @@ fn a_put_is_read_by_its_run_and_by_the_next(rt: HostRuntime) -> Result<(), Fail>
     let alloc = rt.alloc();
     let first = run(alloc, empty(alloc)?, b"put! a 1\nget a\n")?;
     assert_eq!(rt; first.replies(), b"1.1 synced\n1.1 value 1\n".as_slice());
+    assert_eq!(rt; first.sinks.name_of(1), Some("a.txt.out"));
     assert_eq!(rt; first.sinks.report_bytes(), REPORT);
     assert_eq!(rt; first.ended.status, 0);
     let second = run(alloc, first.ended.devices, b"get a\n")?;

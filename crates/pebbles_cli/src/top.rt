@@ -6,6 +6,7 @@ ghost use Rattle.script.specs.Cause.{status_of};
 ghost use Rattle.script.specs.declared.cause.Cause.TheVariants as causes;
 ghost use Rattle.pebbles_cli.specs.Words.{run_words};
 ghost use Rattle.pebbles_cli.specs.Causes.{PlayCause, IsBeforeOpening};
+ghost use Rattle.pebbles_cli.specs.Names.{Uses};
 ghost use Rattle.pebbles_cli.specs.Top.{Plays};
 
 use crate::ended::Ended;
@@ -28,10 +29,11 @@ fn play<D: Devices, S: Scripts, K: Sinks>(
     sinks: &mut K,
 ) -> Cause
     ensures untouched { IsBeforeOpening result → devices.new ≡ devices.old }
+    ensures silent { IsBeforeOpening result → sinks.new ≡ sinks.old }
     ensures ran { IsTrue D.J.tells → (honest : Bool) (base : Batches) → OpensOn honest base (D.seen devices.old) (D.may_leave devices.old)
-        → Plays true D.J.tells honest base (D.seen devices.old) (D.moment devices.old) (S.text scripts.old file.now) (K.took sinks.old 1) (K.took sinks.new 1)
+        → Plays (Uses dir.now file.now (D.directories devices.old) (D.directories devices.new) (K.names sinks.old) (K.names sinks.new)) true D.J.tells honest base (D.seen devices.old) (D.moment devices.old) (S.text scripts.old file.now) (K.took sinks.old 1) (K.took sinks.new 1)
         (K.reported sinks.old) (K.reported sinks.new) (D.may_leave devices.new) result }
-    ensures somehow { (base : Batches) × Plays false D.J.tells false base (D.seen devices.old) (D.moment devices.old) (S.text scripts.old file.now)
+    ensures somehow { (base : Batches) × Plays (Uses dir.now file.now (D.directories devices.old) (D.directories devices.new) (K.names sinks.old) (K.names sinks.new)) false D.J.tells false base (D.seen devices.old) (D.moment devices.old) (S.text scripts.old file.now)
         (K.took sinks.old 1) (K.took sinks.new 1) (K.reported sinks.old) (K.reported sinks.new) (D.may_leave devices.new) result }
     ensures cause { PlayCause (Rose (S.faults scripts.old) (S.faults scripts.new))
         (Rose (D.faults devices.old) (D.faults devices.new) ⊎ Rose (D.journal_faults devices.old) (D.journal_faults devices.new))
@@ -54,8 +56,8 @@ fn play<D: Devices, S: Scripts, K: Sinks>(
 /// Does all that the program does, on words that need no thread.
 ///
 /// The words are `run --profile small --workers 0 DIR FILE`; all others are `Usage`. The script FILE is read and parsed, the store of the directory DIR
-/// is opened on the devices, the commands run one after another, each reply is handed to the client's sink 1 before the next command runs, and the report
-/// goes to the report's sink. The cause is the first fault: of the words, the script, the opening, a reply, the client's sink, the last sync, the report.
+/// is opened on the devices, the commands run one after another, each reply is handed to the sink that is opened for client 1 under the name FILE.out before the next
+/// command runs, and the report goes to the report's sink. No other directory is chosen, and no other sink is opened. The cause is the first fault: of the words, the script, the opening, a reply, the client's sink, the last sync, the report.
 /// The devices come back with all that was made of them: where no command ran they stand for what they stood for, and else for what was settled and some of what was not.
 pub fn top_plain<D: Devices, S: Scripts, K: Sinks>(
     alloc: Global,
@@ -67,10 +69,12 @@ pub fn top_plain<D: Devices, S: Scripts, K: Sinks>(
     ensures status { result.status ≡ status_of result.cause }
     ensures usage { (result.cause ≡ causes.Usage) ↔ (run_words (map string_bytes words.now) ≡ None) }
     ensures untouched { IsBeforeOpening result.cause → result.devices ≡ devices }
+    ensures silent { IsBeforeOpening result.cause → sinks.new ≡ sinks.old }
+    ensures unread { (result.cause ≡ causes.Usage) → scripts.new ≡ scripts.old }
     ensures ran { IfSome (run_words (map string_bytes words.now)) (λ names. IsTrue D.J.tells → (honest : Bool) (base : Batches) → OpensOn honest base (D.seen devices) (D.may_leave devices)
-        → Plays true D.J.tells honest base (D.seen devices) (D.moment devices) (S.text scripts.old names.1) (K.took sinks.old 1) (K.took sinks.new 1)
+        → Plays (Uses names.0 names.1 (D.directories devices) (D.directories result.devices) (K.names sinks.old) (K.names sinks.new)) true D.J.tells honest base (D.seen devices) (D.moment devices) (S.text scripts.old names.1) (K.took sinks.old 1) (K.took sinks.new 1)
         (K.reported sinks.old) (K.reported sinks.new) (D.may_leave result.devices) result.cause) }
-    ensures somehow { IfSome (run_words (map string_bytes words.now)) (λ names. (base : Batches) × Plays false D.J.tells false base (D.seen devices) (D.moment devices) (S.text scripts.old names.1)
+    ensures somehow { IfSome (run_words (map string_bytes words.now)) (λ names. (base : Batches) × Plays (Uses names.0 names.1 (D.directories devices) (D.directories result.devices) (K.names sinks.old) (K.names sinks.new)) false D.J.tells false base (D.seen devices) (D.moment devices) (S.text scripts.old names.1)
         (K.took sinks.old 1) (K.took sinks.new 1) (K.reported sinks.old) (K.reported sinks.new) (D.may_leave result.devices) result.cause) }
     ensures cause { IfSome (run_words (map string_bytes words.now)) (λ names. PlayCause (Rose (S.faults scripts.old) (S.faults scripts.new))
         (Rose (D.faults devices) (D.faults result.devices) ⊎ Rose (D.journal_faults devices) (D.journal_faults result.devices))

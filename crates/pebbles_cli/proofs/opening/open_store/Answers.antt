@@ -1,4 +1,5 @@
-use Rattle.std.proofs.Common.{◌≢◌, inl, inr, false, sym, subst, arith}
+use Rattle.std.proofs.Common.{◌≢◌, inl, inr, false, sym, subst, ap, ◌∙◌, arith}
+use Rattle.disk_model.specs.Directories.{after_opening}
 use Rattle.disk_model.specs.Images.{Rose}
 use Rattle.flsm_core.specs.Logs.{HoldsLogs, Stands}
 use Rattle.flsm_core.specs.Opening.{OpenCause}
@@ -50,6 +51,8 @@ returns-in-Err g c =
     let seen = g.D.Devices.seen c.args.devices.now in
     let why : OpenCause rose g.D.J.Journal.tells seen Small c.in-Err.refused.0 = subst (λ s. OpenCause rose g.D.J.Journal.tells s Small c.in-Err.refused.0) same.bytes c.in-Err.ensures.cause in
     record {
+      opened = tt;
+      refused = inr (inr (c.back.ensures.directories ∙ c.in-Ok-journal.ensures.opened ∙ ap after_opening c.in-Ok.ensures.chosen));
       stands = tt;
       some = tt;
       next = tt;
@@ -68,6 +71,8 @@ pub returns-in_default : goal.returns-in_default
 returns-in_default g c =
     let told = c.set.ensures.told in
     record {
+      opened = tt;
+      refused = inl c.in_default.ensures.unchosen;
       stands = tt;
       some = tt;
       next = tt;

@@ -1,4 +1,4 @@
-use Rattle.std.proofs.Common.{◌⊎◌, inl, inr, [], false, refl, subst}
+use Rattle.std.proofs.Common.{◌⊎◌, inl, inr, [], false, refl, subst, ◌∙◌}
 use Rattle.disk_model.specs.Images.{Rose}
 use Rattle.script.specs.declared.cause.Cause.TheVariants.{Sink}
 use Rattle.flsm_core.specs.Place.{opened}
@@ -6,6 +6,7 @@ use Rattle.flsm_core.specs.State.{state_session, state_journal}
 use Rattle.pebbles_cli.specs.Top.{Ran}
 use Rattle.pebbles_cli.proofs.Handing.{opens_read}
 use Rattle.pebbles_cli.proofs.Serving.{rose_later}
+use Rattle.pebbles_cli.proofs.Naming.{replies_named}
 use Rattle.pebbles_cli.proofs.Running.{not_run, memory_is_fault, sink_is_fault, honest_opens, leaves_base, run_weaker}
 use Rattle.pebbles_cli.proofs.run.run_commands.Goals as goal
 
@@ -13,33 +14,34 @@ pub returns-in_default-clause-somehow : goal.returns-in_default-clause-somehow
 returns-in_default-clause-somehow g c = (
   [],
   inl (not_run false [] (g.K.Sinks.took c.args.sinks.now 1) (g.K.Sinks.took c.args.sinks.now 1) (g.K.Sinks.reported c.args.sinks.now) (g.K.Sinks.reported c.args.sinks.now) (g.D.Devices.may_leave c.args.devices.now) _
-      memory_is_fault refl refl (λ is. absurd cc)),
+      memory_is_fault refl refl (record { directory = inl refl; no_sink = refl }) (λ is. absurd cc)),
 )
 
 pub returns-in_default-new-clause-somehow : goal.returns-in_default-new-clause-somehow
 returns-in_default-new-clause-somehow g c = (
   [],
   inl (not_run false [] (g.K.Sinks.took c.args.sinks.now 1) (g.K.Sinks.took c.args.sinks.now 1) (g.K.Sinks.reported c.args.sinks.now) (g.K.Sinks.reported c.args.sinks.now) (g.D.Devices.may_leave c.args.devices.now) _
-      memory_is_fault refl refl (λ is. absurd cc)),
+      memory_is_fault refl refl (record { directory = inl refl; no_sink = refl }) (λ is. absurd cc)),
 )
 
 pub returns-in-Err-clause-ran : goal.returns-in-Err-clause-ran
 returns-in-Err-clause-ran g c = λ told honest base on.
     let took = g.K.Sinks.took c.args.sinks.now 1 in
     let reported = g.K.Sinks.reported c.args.sinks.now in
-    inl (not_run honest base took took reported reported (g.D.Devices.may_leave c.open_store.new.devices) c.in-Err.cause c.in-Err.ensures.fault refl refl
+    inl (not_run honest base took took reported reported (g.D.Devices.may_leave c.open_store.new.devices) c.in-Err.cause c.in-Err.ensures.fault refl refl (record { directory = c.in-Err.ensures.refused; no_sink = refl })
     (λ is image left. c.in-Err.ensures.left told base (honest_opens honest base (g.D.Devices.seen c.args.devices.now) (g.D.Devices.may_leave c.args.devices.now) is on) image left))
 
 pub returns-in-Err-clause-somehow : goal.returns-in-Err-clause-somehow
 returns-in-Err-clause-somehow g c =
     let took = g.K.Sinks.took c.args.sinks.now 1 in
     let reported = g.K.Sinks.reported c.args.sinks.now in
-    ([], inl (not_run false [] took took reported reported (g.D.Devices.may_leave c.open_store.new.devices) c.in-Err.cause c.in-Err.ensures.fault refl refl (λ is. absurd cc)))
+    ([], inl (not_run false [] took took reported reported (g.D.Devices.may_leave c.open_store.new.devices) c.in-Err.cause c.in-Err.ensures.fault refl refl (record { directory = c.in-Err.ensures.refused; no_sink = refl }) (λ is. absurd cc)))
 
 pub returns-in_default-client-clause-ran : goal.returns-in_default-client-clause-ran
 returns-in_default-client-clause-ran g c = λ told honest base on.
     inl (not_run honest base (g.K.Sinks.took c.args.sinks.now 1) (g.K.Sinks.took c.client.new.self 1) (g.K.Sinks.reported c.args.sinks.now) (g.K.Sinks.reported c.client.new.self)
     (g.D.Devices.may_leave c.close_store.new.devices) (Sink 1) sink_is_fault (c.in_default-client.ensures.others 1) c.in_default-client.ensures.report
+    (record { directory = inr (inr (c.close_store.ensures.directories ∙ c.in-Ok-open_store.ensures.opened)); no_sink = c.in_default-client.ensures.unopened })
     (λ is image left. leaves_base base image
     (c.close_store.ensures.left told (opened (g.D.Devices.moment c.args.devices.now) honest base) (c.in-Ok-open_store.ensures.stands told honest base on) is image left)))
 
@@ -47,7 +49,8 @@ pub returns-in_default-client-clause-somehow : goal.returns-in_default-client-cl
 returns-in_default-client-clause-somehow g c = (
   [],
   inl (not_run false [] (g.K.Sinks.took c.args.sinks.now 1) (g.K.Sinks.took c.client.new.self 1) (g.K.Sinks.reported c.args.sinks.now) (g.K.Sinks.reported c.client.new.self)
-      (g.D.Devices.may_leave c.close_store.new.devices) (Sink 1) sink_is_fault (c.in_default-client.ensures.others 1) c.in_default-client.ensures.report (λ is. absurd cc)),
+      (g.D.Devices.may_leave c.close_store.new.devices) (Sink 1) sink_is_fault (c.in_default-client.ensures.others 1) c.in_default-client.ensures.report
+      (record { directory = inr (inr (c.close_store.ensures.directories ∙ c.in-Ok-open_store.ensures.opened)); no_sink = c.in_default-client.ensures.unopened }) (λ is. absurd cc)),
 )
 
 pub returns-in_default-client-clause-cause : goal.returns-in_default-client-clause-cause
@@ -60,6 +63,11 @@ returns-clause-ran g c = λ told honest base on.
     let start = opened (g.D.Devices.moment c.args.devices.now) honest base in
     inr (record {
       session = state_session c.in-Ok-open_store.state;
+      names = record {
+        directory = c.run_opened.ensures.directories ∙ c.in-Ok-open_store.ensures.opened;
+        replies = replies_named c.args.file.now c.as_str.result.now (g.K.One.Sink.label c.in-Ok-client.replies) (g.K.Sinks.names c.args.sinks.now) (g.K.Sinks.names c.client.new.self) (g.K.Sinks.names c.run_opened.new.sinks)
+            (c.as_str.ensures.value ∙ c.in-Ok.ensures) c.in-Ok-client.ensures.label c.in-Ok-client.ensures.opened c.run_opened.ensures.names;
+      };
       next = λ known. c.in-Ok-open_store.ensures.next told base (opens_read honest base seen may (g.met.D.Devices.read_is_left c.args.devices.now told) on);
       ran =
           subst (λ r. Ran g.D.J.Journal.tells (state_session c.in-Ok-open_store.state) start c.args.commands.items (g.K.Sinks.took c.run_opened.new.sinks 1) r (g.K.Sinks.reported c.run_opened.new.sinks)
@@ -74,6 +82,11 @@ returns-clause-somehow g c =
       some.0,
       inr (record {
         session = state_session c.in-Ok-open_store.state;
+        names = record {
+          directory = c.run_opened.ensures.directories ∙ c.in-Ok-open_store.ensures.opened;
+          replies = replies_named c.args.file.now c.as_str.result.now (g.K.One.Sink.label c.in-Ok-client.replies) (g.K.Sinks.names c.args.sinks.now) (g.K.Sinks.names c.client.new.self) (g.K.Sinks.names c.run_opened.new.sinks)
+              (c.as_str.ensures.value ∙ c.in-Ok.ensures) c.in-Ok-client.ensures.label c.in-Ok-client.ensures.opened c.run_opened.ensures.names;
+        };
         next = λ known. absurd cc;
         ran =
             subst (λ r. Ran g.D.J.Journal.tells (state_session c.in-Ok-open_store.state) start c.args.commands.items (g.K.Sinks.took c.run_opened.new.sinks 1) r (g.K.Sinks.reported c.run_opened.new.sinks)

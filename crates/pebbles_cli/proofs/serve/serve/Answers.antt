@@ -26,6 +26,7 @@ loop-command-init g c =
       some = c.requires;
       session = refl;
       store_later = omega arith;
+      label = refl;
       sink_later = omega arith;
       journal = tt;
     }
@@ -81,6 +82,7 @@ loop-command-preserved g c = record {
   some = let one = c.answer-told.ensures.told c.loop-command.invariant.some.0 c.loop-command.invariant.some.1 in (one.0, one.1.0);
   session = c.answer-told.ensures.session ∙ c.loop-command.invariant.session;
   store_later = omega (arith, c.answer-told.ensures.later, c.loop-command.invariant.store_later);
+  label = c.put.ensures.label ∙ c.loop-command.invariant.label;
   sink_later = omega (arith, c.put.ensures.cause.later, c.loop-command.invariant.sink_later);
   journal =
       subst (LineCause (Rose (g.S.Store.faults c.args.store.now) (g.S.Store.faults c.answer-told.new.store))) (sym c.or-fault.ensures)

@@ -14,6 +14,7 @@ invariant-loop-command g l = record {
   some : (p : Place) × g.S.Store.stands l.store p;
   session : g.S.Store.session l.store ≡ g.S.Store.session l.fn.store;
   store_later : g.S.Store.faults l.fn.store ≤ g.S.Store.faults l.store;
+  label : g.K.Sink.label l.sink ≡ g.K.Sink.label l.fn.sink;
   sink_later : g.K.Sink.faults l.fn.sink ≤ g.K.Sink.faults l.sink;
   journal : LineCause (Rose (g.S.Store.faults l.fn.store) (g.S.Store.faults l.store)) l.fault;
 }

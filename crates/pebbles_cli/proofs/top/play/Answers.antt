@@ -12,6 +12,13 @@ returns-clause-untouched g c = λ before.
     (Rose (g.K.Sinks.faults c.args.sinks.now) (g.K.Sinks.faults c.run_commands.new.sinks)) (Rose 0 (g.K.Sinks.client_faults c.run_commands.new.sinks 1)) g.D.J.Journal.tells (g.D.Devices.seen c.args.devices.now)
     c.run_commands.ensures.cause before)
 
+pub returns-clause-silent : goal.returns-clause-silent
+returns-clause-silent g c = λ before.
+    absurd (run_is_after c.run_commands.result
+    (Rose (g.D.Devices.faults c.args.devices.now) (g.D.Devices.faults c.run_commands.new.devices) ⊎ Rose (g.D.Devices.journal_faults c.args.devices.now) (g.D.Devices.journal_faults c.run_commands.new.devices))
+    (Rose (g.K.Sinks.faults c.args.sinks.now) (g.K.Sinks.faults c.run_commands.new.sinks)) (Rose 0 (g.K.Sinks.client_faults c.run_commands.new.sinks 1)) g.D.J.Journal.tells (g.D.Devices.seen c.args.devices.now)
+    c.run_commands.ensures.cause before)
+
 pub returns-clause-ran : goal.returns-clause-ran
 returns-clause-ran g c = λ told honest base on.
     let text = g.S.Scripts.text c.args.scripts.now c.args.file.now in
