@@ -1,8 +1,11 @@
+pub mod Ascending
 pub mod Cuts
 pub mod Footers
 pub mod IndexWalk
 pub mod Indexing
 pub mod Openings
+pub mod Parting
+pub mod Reopened
 pub mod Spelled
 pub mod Summing
 pub mod Written

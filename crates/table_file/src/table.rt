@@ -1,12 +1,11 @@
 //! Sorted tables.
 
-ghost use Rattle.std.specs.Prelude.{◌≡◌, ◌<◌, List, length, IsTrue, slice_get, Some};
+ghost use Rattle.std.specs.Prelude.{◌≡◌, ◌<◌, length, IsTrue, slice_get, Some};
 ghost use Rattle.peb_base.specs.Choice as choice;
 ghost use Rattle.peb_base.specs.Entries.{comes_before};
-ghost use Rattle.peb_base.specs.declared.entry.Entry.{Entry};
 ghost use Rattle.bloom.specs.Filter.{may_hold};
 ghost use Rattle.table_file.specs.Items.{block_for};
-ghost use Rattle.table_file.specs.Tables.{IsTableOf};
+ghost use Rattle.table_file.specs.Tables.{Holds};
 
 use crate::index_item::IndexItem;
 use bloom::Filter;
@@ -105,9 +104,9 @@ impl<F: TableHandle> Table<F> {
 impl<F: TableHandle> HasRow for Table<F> {
     ghost the_row = { λ table. table.row };
 
-    ghost holds = { λ table es. IsTrue F.tells × ((blocks : List (List Entry)) × IsTableOf F.tells table.row.number table.row.level (F.number table.file) (F.bytes table.file) table.row table.items.items table.filter blocks es) };
+    ghost holds = { λ table es. IsTrue F.tells × Holds F.tells (F.number table.file) (F.bytes table.file) table.row table.items.items table.filter es };
 
-    ghost agrees = { λ table es held. (held.1.1.sorted, held.1.1.row_is) };
+    ghost agrees = { λ table es held. (held.1.table.sorted, held.1.table.row_is) };
 
     fn row(&self) -> &TableRow {
         &self.row
