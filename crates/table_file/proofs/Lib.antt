@@ -6,6 +6,7 @@ pub mod Indexing
 pub mod Openings
 pub mod Parting
 pub mod Reopened
+pub mod Searching
 pub mod Spelled
 pub mod Summing
 pub mod Written
