@@ -3,6 +3,7 @@ pub mod Cuts
 pub mod Footers
 pub mod IndexWalk
 pub mod Indexing
+pub mod Lengths
 pub mod Openings
 pub mod Parting
 pub mod Reopened

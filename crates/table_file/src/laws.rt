@@ -4,6 +4,8 @@ ghost use Rattle.std.specs.Prelude.{◌≡◌, ◌<◌, ◌≤◌, ◌^◌, List
 ghost use Rattle.std.specs.List.{flat_map};
 ghost use Rattle.peb_base.specs.declared.table_row.TableRow.{TableRow};
 ghost use Rattle.peb_base.specs.Entries.{AreSorted};
+ghost use Rattle.peb_base.specs.Profiles.{Column};
+ghost use Rattle.peb_base.specs.Tables as reckoned;
 ghost use Rattle.peb_base.specs.declared.entry.Entry.{Entry};
 ghost use Rattle.table_file.specs.Blocks.{AreBlocks};
 ghost use Rattle.table_file.specs.Form.{blocks_of, items_from, index_bytes, key_filter, table_bytes};
@@ -42,4 +44,11 @@ pub fn law_blocks()
     ensures blocks { (full : ℕ) (es : List Entry) → 5 < full → full ≤ 4096 → AreSorted es → AreBlocks (blocks_of full es) }
 {
     block_grows();
+}
+
+/// The bytes of a table are as many as are reckoned from its entries and its profile's column alone.
+pub fn law_length()
+    ensures { (o : Column) (number : ℕ) (es : List Entry) → length (table_bytes o.block_bytes number es) ≡ reckoned.table_bytes o es }
+{
+    law_filter();
 }
