@@ -20,7 +20,7 @@ pub record IsTableOf (tells : Bool) (number level file : ℕ) (bytes : List ℕ)
   pub items_are : items ≡ items_from 0 blocks
   pub filter_is : filter ≡ key_filter es
 
--- the table holds these entries, cut into blocks by some profile: a block is full at a length of 6 to 4,096 bytes
+-- the table holds these entries in the blocks that they are cut into, where a block is full at a length of 6 to 4,096 bytes, as in every profile
 pub record Holds (tells : Bool) (file : ℕ) (bytes : List ℕ) (row : TableRow) (items : List IndexItem) (filter : List ℕ) (es : List Entry) : Type 0 where
   pub full : ℕ
   pub least : 5 < full
