@@ -51,6 +51,19 @@ impl<'a> Block<'a> {
         }
         Ok(Block { entries, count })
     }
+
+    /// Reads a block again that is known to be one, of so many entries, without a walk over its bytes: its length and the
+    /// number of its restarts tell where its entries stand.
+    pub fn again(bytes: &'a [u8], count: usize) -> Block<'a>
+        requires { (es : List Entry) × IsBlock es bytes.now × (length es ≡ count) }
+        ensures { IsBlock result bytes.now }
+    {
+        let Some(parts) = parts_of_block(bytes) else {
+            unreachable!();
+        };
+        let (entries, _) = parts;
+        Block { entries, count }
+    }
 }
 
 impl Block<'_> {

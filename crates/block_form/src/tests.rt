@@ -37,6 +37,17 @@ fn the_block_of_one_put_is_read(rt: HostRuntime) -> Result<(), Fail> {
 }
 
 #[test]
+fn a_block_is_read_again_as_it_was(rt: HostRuntime) -> Result<(), Fail> {
+    let count = Block::read(&BLOCK)?.len();
+    let block = Block::again(&BLOCK, count);
+    assert_eq!(rt; block.len(), 1);
+    let mut key = KeyBuf::new();
+    assert_eq!(rt; block.entry_at(0, &mut key).key, b"a".as_slice());
+    assert_eq!(rt; block.find(b"a", Number::new(1, 0)), 1);
+    Ok(())
+}
+
+#[test]
 fn an_entry_is_found_by_its_key_and_number(rt: HostRuntime) -> Result<(), Fail> {
     let block = Block::read(&BLOCK)?;
     assert_eq!(rt; block.find(b"", Number::new(0, 0)), 0);

@@ -1,8 +1,13 @@
+pub mod Ascending
 pub mod Cuts
 pub mod Footers
 pub mod IndexWalk
 pub mod Indexing
+pub mod Lengths
 pub mod Openings
+pub mod Parting
+pub mod Reopened
+pub mod Searching
 pub mod Spelled
 pub mod Summing
 pub mod Written

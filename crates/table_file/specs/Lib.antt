@@ -1,3 +1,4 @@
+pub mod Blocks
 pub mod Damages
 pub mod Form
 pub mod Gathers

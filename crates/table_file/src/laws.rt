@@ -1,9 +1,13 @@
 //! Laws of tables.
 
 ghost use Rattle.std.specs.Prelude.{◌≡◌, ◌<◌, ◌≤◌, ◌^◌, List, ℕ, length};
+ghost use Rattle.std.specs.List.{flat_map};
 ghost use Rattle.peb_base.specs.declared.table_row.TableRow.{TableRow};
 ghost use Rattle.peb_base.specs.Entries.{AreSorted};
+ghost use Rattle.peb_base.specs.Profiles.{Column};
+ghost use Rattle.peb_base.specs.Tables as reckoned;
 ghost use Rattle.peb_base.specs.declared.entry.Entry.{Entry};
+ghost use Rattle.table_file.specs.Blocks.{AreBlocks};
 ghost use Rattle.table_file.specs.Form.{blocks_of, items_from, index_bytes, key_filter, table_bytes};
 ghost use Rattle.table_file.specs.Opening.{OpensAs};
 ghost use Rattle.table_file.specs.declared.index_item.IndexItem.{IndexItem};
@@ -22,5 +26,29 @@ pub fn written_opens()
     ensures { (row : TableRow) (full number : ℕ) (es : List Entry) → 5 < full → full ≤ 4096 → AreSorted es → 0 < length es → length es ≤ 1717986918 → length (index_bytes (items_from 0 (blocks_of full es))) ≤ 2147483648 → row.number ≡ number → row.entries ≡ length es → row.bytes ≡ length (table_bytes full number es) → OpensAs row (items_from 0 (blocks_of full es)) (key_filter es) (table_bytes full number es) }
 {
     block_grows();
+    law_filter();
+}
+
+/// The bytes of a table's entries open by the table's row with no other index and no other filter than the written ones.
+pub fn opens_as_written()
+    ensures { (row : TableRow) (full : ℕ) (es : List Entry) (items : List IndexItem) (filter : List ℕ) → 5 < full → full ≤ 4096 → AreSorted es → 0 < length es → row.entries ≡ length es → row.bytes < 2 ^ 64 → row.bytes ≡ length (table_bytes full row.number es) → OpensAs row items filter (table_bytes full row.number es) → (items ≡ items_from 0 (blocks_of full es)) × (filter ≡ key_filter es) }
+{
+    block_grows();
+    law_filter();
+}
+
+/// The blocks of sorted entries, in a profile whose blocks are full at most at 4096 bytes, have the entries one after
+/// another, and the spelling of each is a block.
+pub fn law_blocks()
+    ensures joined { (full : ℕ) (es : List Entry) → 5 < full → full ≤ 4096 → AreSorted es → flat_map (λ block. block) (blocks_of full es) ≡ es }
+    ensures blocks { (full : ℕ) (es : List Entry) → 5 < full → full ≤ 4096 → AreSorted es → AreBlocks (blocks_of full es) }
+{
+    block_grows();
+}
+
+/// The bytes of a table are as many as are reckoned from its entries and its profile's column alone.
+pub fn law_length()
+    ensures { (o : Column) (number : ℕ) (es : List Entry) → length (table_bytes o.block_bytes number es) ≡ reckoned.table_bytes o es }
+{
     law_filter();
 }

@@ -1,12 +1,11 @@
 //! Sorted tables.
 
-ghost use Rattle.std.specs.Prelude.{◌≡◌, ◌<◌, List, length, IsTrue, slice_get, Some};
+ghost use Rattle.std.specs.Prelude.{◌≡◌, ◌<◌, length, IsTrue, slice_get, Some};
 ghost use Rattle.peb_base.specs.Choice as choice;
 ghost use Rattle.peb_base.specs.Entries.{comes_before};
-ghost use Rattle.peb_base.specs.declared.entry.Entry.{Entry};
 ghost use Rattle.bloom.specs.Filter.{may_hold};
-ghost use Rattle.table_file.specs.Items.{block_for};
-ghost use Rattle.table_file.specs.Tables.{IsTableOf};
+ghost use Rattle.table_file.specs.Items.{ascend, block_for, ends_before, index_for};
+ghost use Rattle.table_file.specs.Tables.{Holds};
 
 use crate::index_item::IndexItem;
 use bloom::Filter;
@@ -14,13 +13,14 @@ use disk_model::TableHandle;
 use peb_base::{HasRow, Number, TableRow};
 use std::cmp::Ordering;
 
-/// A sorted table (SSTable): its row, the handle of its file, its index and its filter.
+/// A sorted table (SSTable): its row, the handle of its file, its index, whose items ascend, and its filter.
 #[derive(Drop)]
 pub struct Table<F: TableHandle> {
     pub(crate) row: TableRow,
     pub(crate) file: F,
     pub(crate) items: Vec<IndexItem>,
     pub(crate) filter: Filter,
+    pub(crate) ghost ascending: { IsTrue (ascend items.items) },
 }
 
 /// Whether the first key and number come before the second, in entry order.
@@ -33,18 +33,6 @@ pub(crate) fn is_before(key: &[u8], number: u64, later: &[u8], lower: u64) -> bo
         Ordering::Equal => lower < number,
         Ordering::Greater => false,
     }
-}
-
-/// The place and the length of the first of these blocks that doesn't end before this key and number.
-fn block_among(items: &[IndexItem], key: &[u8], number: u64) -> Option<(u64, u32)>
-    ensures { result ≡ block_for key.now number items.now }
-{
-    for item in items {
-        if !is_before(item.key.bytes(), item.number.packed(), key, number) {
-            return Some((item.place, item.len));
-        }
-    }
-    None
 }
 
 impl<F: TableHandle> Table<F> {
@@ -93,21 +81,39 @@ impl<F: TableHandle> Table<F> {
         self.filter.may_hold(key)
     }
 
+    /// The index of the block that has the first entry at or after this key and number, or the number of blocks where every
+    /// entry is before. A binary search over the index.
+    pub fn block_index(&self, key: &[u8], number: Number) -> usize
+        ensures { result ≡ index_for key.now number self.now.items.items }
+    {
+        let number = number.packed();
+        let items = self.items.as_slice();
+        items.partition_point(
+            |item: &IndexItem| -> bool
+                ensures { result ≡ ends_before key.entry.now number item.now }
+            { is_before(item.key.bytes(), item.number.packed(), key, number) },
+        )
+    }
+
     /// The place and the length, in bytes, of the block that has the first entry at or after this key and number; None
     /// exactly where every entry is before.
     pub fn block_of(&self, key: &[u8], number: Number) -> Option<(u64, u32)>
         ensures { result ≡ block_for key.now number self.now.items.items }
     {
-        block_among(&self.items, key, number.packed())
+        let index = self.block_index(key, number);
+        match self.items.get(index) {
+            Some(item) => Some((item.place, item.len)),
+            None => None,
+        }
     }
 }
 
 impl<F: TableHandle> HasRow for Table<F> {
     ghost the_row = { λ table. table.row };
 
-    ghost holds = { λ table es. IsTrue F.tells × ((blocks : List (List Entry)) × IsTableOf F.tells table.row.number table.row.level (F.number table.file) (F.bytes table.file) table.row table.items.items table.filter blocks es) };
+    ghost holds = { λ table es. IsTrue F.tells × Holds F.tells (F.number table.file) (F.bytes table.file) table.row table.items.items table.filter es };
 
-    ghost agrees = { λ table es held. (held.1.1.sorted, held.1.1.row_is) };
+    ghost agrees = { λ table es held. (held.1.table.sorted, held.1.table.row_is) };
 
     fn row(&self) -> &TableRow {
         &self.row

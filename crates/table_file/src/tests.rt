@@ -76,6 +76,22 @@ fn a_table_of_one_put_has_these_bytes(rt: HostRuntime) -> Result<(), Fail> {
 }
 
 #[test]
+fn a_block_is_found_by_a_key_and_a_number(rt: HostRuntime) -> Result<(), Fail> {
+    let alloc = rt.alloc();
+    let mut devices = MemDevices::new(alloc, Plans::empty(alloc))?;
+    let mut maker = devices.maker()?;
+    let made = write_two(alloc, &mut maker);
+    devices.back_maker(maker);
+    let table = made?;
+    assert_eq!(rt; table.block_index(b"", Number::new(0, 0)), 0);
+    assert_eq!(rt; table.block_index(b"a", Number::new(1, 1)), 0);
+    assert_eq!(rt; table.block_index(b"a", Number::new(1, 0)), 1);
+    assert_eq!(rt; table.block_index(b"p", Number::new(1, 2)), 1);
+    assert_eq!(rt; table.block_index(b"p", Number::new(1, 1)), 2);
+    Ok(())
+}
+
+#[test]
 fn a_full_block_is_closed(rt: HostRuntime) -> Result<(), Fail> {
     let alloc = rt.alloc();
     let mut devices = MemDevices::new(alloc, Plans::empty(alloc))?;

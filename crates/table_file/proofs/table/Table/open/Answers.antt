@@ -2,6 +2,7 @@ use Rattle.std.proofs.Common.{◌≡◌, ◌∙◌, List, ℕ, Some, sym, subst,
 use Rattle.table_file.specs.Form.{index_bytes}
 use Rattle.table_file.specs.Opening.{OpensAs}
 use Rattle.table_file.proofs.Openings.{opens}
+use Rattle.table_file.proofs.Searching.{index_ascends}
 use Rattle.table_file.proofs.table.Table.open.Goals as goal
 
 one_value : (x y : List ℕ) → Some x ≡ Some y → x ≡ y
@@ -24,3 +25,6 @@ returns-clause-opened g c = λ told.
     let items = c.in-Ok-read_index.items.items in
     opens c.args.row items c.in-Ok-read_filter.filter (g.F.TableHandle.bytes c.in-Some.file) (index_bytes items) c.in-Ok-read_footer.footer c.in-Ok-read_footer.ensures.agrees
     (c.in-Ok-read_footer.ensures.long told) (c.in-Ok-read_footer.ensures.spelled told) (sym (c.in-Ok-read_index.ensures.spelled told)) refl (c.in-Ok-read_filter.ensures.filter told) c.in-Ok-read_index.ensures.index
+
+pub invariant_of-result : goal.invariant_of-result
+invariant_of-result g c = record { ascending = index_ascends c.in-Ok-read_footer.footer.index c.in-Ok-read_index.items.items c.in-Ok-read_index.ensures.index }
