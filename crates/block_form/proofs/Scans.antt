@@ -1,10 +1,11 @@
 -- A scan of the entries of a block.
-use Rattle.std.proofs.Common.{◌≡◌, ℕ, zero, suc, ◌+◌, ◌<◌, ◌≤◌, true, false, List, [], ◌∷◌, ◌++◌, length, drop, Some, refl, sym, ap, ◌∙◌, subst, arith}
-use Rattle.std.specs.Prelude.{if◌then◌else◌, slice_get}
+use Rattle.std.proofs.Common.{◌≡◌, ℕ, zero, suc, ◌+◌, ◌<◌, ◌≤◌, true, false, List, [], ◌∷◌, ◌++◌, length, drop, Some, refl, sym, ap, ◌∙◌, subst, arith, ◌^◌, lit<}
+use Rattle.std.specs.Prelude.{if◌then◌else◌, slice_get, min, max}
 use Rattle.peb_base.specs.Keys.{Bytes}
 use Rattle.peb_base.specs.declared.change.Change.{Change}
 use Rattle.peb_base.specs.declared.entry.Entry.{Entry}
 use Rattle.peb_base.specs.Entries.{comes_before, IsEntry, AscendFrom, first_from}
+use Rattle.peb_base.specs.Tables.{least_number, greatest_number}
 use Rattle.block_form.specs.Form.{entry_bytes, entries_bytes}
 use Rattle.block_form.specs.Walks.{HoldsEntries, BeginsWithEntry}
 use Rattle.block_form.proofs.Walks.{entries-one}
@@ -88,7 +89,7 @@ found_here key number place es here later found =
     ap (first_from key number) here.split ∙ ap (λ b. if b then suc (first_from key number (drop (place + 1) es)) else 0) later in
     omega (arith, found, none)
 
-past : (place : ℕ) (es : List Entry) → length es ≤ place → drop place es ≡ []
+pub past : (place : ℕ) (es : List Entry) → length es ≤ place → drop place es ≡ []
 past zero [] le = refl
 past zero (e ∷ es) le = absurd (omega (arith, le))
 past (suc place) [] le = refl
@@ -96,3 +97,42 @@ past (suc place) (e ∷ es) le = past place es (omega (arith, le))
 
 pub found_past : (key : Bytes) (number place : ℕ) (es : List Entry) → length es ≤ place → FoundFrom key number place es → place ≡ first_from key number es
 found_past key number place es le found = omega (arith, found, ap (first_from key number) (past place es le))
+
+-- the least of a number and of those of entries
+abbrev pub least_with : ℕ → List Entry → ℕ
+least_with n [] = n
+least_with n (e ∷ es) = least_with (min n e.number) es
+
+-- the greatest of a number and of those of entries
+abbrev pub greatest_with : ℕ → List Entry → ℕ
+greatest_with n [] = n
+greatest_with n (e ∷ es) = greatest_with (max n e.number) es
+
+least_joined : (a b : ℕ) (es : List Entry) → least_with (min a b) es ≡ min a (least_with b es)
+least_joined a b [] = refl
+least_joined a b (e ∷ es) =
+    let same : min (min a b) e.number ≡ min a (min b e.number) = omega arith in
+    ap (λ n. least_with n es) same ∙ least_joined a (min b e.number) es
+
+pub least_whole : (e : Entry) (es : List Entry) → least_with e.number es ≡ least_number (e ∷ es)
+least_whole e [] = refl
+least_whole e (f ∷ es) = least_joined e.number f.number es ∙ ap (min e.number) (least_whole f es)
+
+greatest_joined : (a b : ℕ) (es : List Entry) → greatest_with (max a b) es ≡ max a (greatest_with b es)
+greatest_joined a b [] = refl
+greatest_joined a b (e ∷ es) =
+    let same : max (max a b) e.number ≡ max a (max b e.number) = omega arith in
+    ap (λ n. greatest_with n es) same ∙ greatest_joined a (max b e.number) es
+
+pub greatest_whole : (n : ℕ) (es : List Entry) → greatest_with n es ≡ max n (greatest_number es)
+greatest_whole n [] = omega arith
+greatest_whole n (e ∷ es) = greatest_joined n e.number es ∙ ap (max n) (greatest_whole e.number es)
+
+pub least_fits : (before : Bytes) (above : ℕ) (es : List Entry) → AscendFrom before above es → least_number es < 2 ^ 63
+least_fits before above [] each = lit< tt
+least_fits before above (e ∷ []) each = each.0.number
+least_fits before above (e ∷ f ∷ es) each = omega (arith, each.0.number)
+
+pub greatest_fits : (before : Bytes) (above : ℕ) (es : List Entry) → AscendFrom before above es → greatest_number es < 2 ^ 63
+greatest_fits before above [] each = lit< tt
+greatest_fits before above (e ∷ es) each = omega (arith, each.0.number, greatest_fits e.key e.number es each.2)

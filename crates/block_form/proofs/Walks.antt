@@ -9,7 +9,7 @@ use Rattle.peb_base.specs.Entries.{comes_before, IsEntry, AscendFrom}
 use Rattle.peb_base.specs.declared.entry.Entry.{Entry}
 use Rattle.block_form.specs.Parts.{Parts, parts_bytes, parts_from, behind_from, FitsParts}
 use Rattle.block_form.specs.Form.{is_restart, places_bytes, parts_at, entry_bytes, entries_bytes, restarts, block_bytes, block_restarts, IsBlock}
-use Rattle.block_form.specs.Walks.{places_at, entry_from, IsNext, Spells, entries_from, BlockParts, HoldsEntries}
+use Rattle.block_form.specs.Walks.{places_at, entry_from, IsNext, Spells, entries_from, entries_in, BlockParts, HoldsEntries}
 use Rattle.block_form.proofs.Spelling.{length-parts, parts_again, behind_again}
 use Rattle.block_form.proofs.Prefixes.{one_front, parts_fit, parts_once, entry_again}
 
@@ -195,6 +195,12 @@ unfolding entries_from
 from_step n before [] some = absurd (omega arith)
 from_step n before (b ∷ bytes) some = refl
 
+-- an entry is read back, whatever follows
+read_on : (n place : ℕ) (before : Bytes) (e : Entry) (more : List ℕ) → IsEntry e → entries_from (suc n) before (entry_bytes place before e ++ more) ≡ e ∷ entries_from n e.key more
+read_on n place before e more is =
+    from_step n before (entry_bytes place before e ++ more) (omega (arith, length-append (entry_bytes place before e) more, length-entry place before e))
+    ∙ (λ i. read_entry place before e more is i ∷ entries_from n (read_entry place before e more is i).key (read_behind place before e more is i))
+
 -- entries are read back, also where more are asked for
 pub entries_again : (n place : ℕ) (before : Bytes) (above : ℕ) (es : List Entry) → length es ≤ n → AscendFrom before above es → entries_from n before (entries_bytes place before es) ≡ es
 unfolding entries_bytes entries_from
@@ -202,21 +208,15 @@ entries_again zero place before above [] enough are = refl
 entries_again (suc n) place before above [] enough are = refl
 entries_again zero place before above (e ∷ es) enough are = absurd (omega (arith, enough))
 entries_again (suc n) place before above (e ∷ es) enough are =
-    opened n place before e es are.0 (entries_again n (suc place) e.key e.number es (omega (arith, enough)) are.2)
-  where
-    opened : (n place : ℕ) (before : Bytes) (e : Entry) (es : List Entry) → IsEntry e → entries_from n e.key (entries_bytes (suc place) e.key es) ≡ es
-        → entries_from (suc n) before (entry_bytes place before e ++ entries_bytes (suc place) e.key es) ≡ e ∷ es
-    opened n place before e es is ih =
-        from_step n before (entry_bytes place before e ++ entries_bytes (suc place) e.key es)
-        (omega (arith, length-append (entry_bytes place before e) (entries_bytes (suc place) e.key es), length-entry place before e))
-        ∙ (λ i. first i ∷ entries_from n (first i).key (behind i))
-        ∙ ap (λ l. e ∷ l) ih
-      where
-        first : entry_from before (parts_from (entry_bytes place before e ++ entries_bytes (suc place) e.key es)) ≡ e
-        first = read_entry place before e (entries_bytes (suc place) e.key es) is
+    read_on n place before e (entries_bytes (suc place) e.key es) are.0 ∙ ap (λ l. e ∷ l) (entries_again n (suc place) e.key e.number es (omega (arith, enough)) are.2)
 
-        behind : behind_from (entry_bytes place before e ++ entries_bytes (suc place) e.key es) ≡ entries_bytes (suc place) e.key es
-        behind = read_behind place before e (entries_bytes (suc place) e.key es) is
+-- so many entries are read back, whatever follows
+pub entries_followed : (place : ℕ) (before : Bytes) (above : ℕ) (es : List Entry) (more : List ℕ) → AscendFrom before above es → entries_from (length es) before (entries_bytes place before es ++ more) ≡ es
+unfolding entries_bytes entries_from
+entries_followed place before above [] more are = refl
+entries_followed place before above (e ∷ es) more are =
+    ap (entries_from (suc (length es)) before) (append_assoc (entry_bytes place before e) (entries_bytes (suc place) e.key es) more)
+    ∙ read_on (length es) place before e (entries_bytes (suc place) e.key es ++ more) are.0 ∙ ap (λ l. e ∷ l) (entries_followed (suc place) e.key e.number es more are.2)
 
 -- bytes are those of one list of entries at most
 pub one_entries : (place : ℕ) (before : Bytes) (above : ℕ) (a b : List Entry) → AscendFrom before above a → AscendFrom before above b → entries_bytes place before a ≡ entries_bytes place before b → a ≡ b
@@ -292,6 +292,12 @@ apart (x ∷ bytes) body front tail k long zero_ is a b = λ i. zero_ i ∷ (sym
 
 pub not_empty : (es : List Entry) (bytes : List ℕ) → length es ≡ 0 → IsBlock es bytes → ⊥
 not_empty es bytes none is = omega (arith, none, is.some)
+
+-- the entries of a block are what its bytes read as
+pub entries_of_block : (es : List Entry) (bytes : List ℕ) → IsBlock es bytes → entries_in (length es) bytes ≡ es
+unfolding block_bytes
+entries_of_block es bytes is =
+    ap (λ l. entries_from (length es) [] (drop 1 l)) is.spelled ∙ entries_followed 0 [] 0 es (places_bytes (block_restarts es) ++ big_bytes 4 (length (block_restarts es))) is.each
 
 -- bytes are the block of one list of entries at most
 pub one_block : (a b : List Entry) (bytes : List ℕ) → IsBlock a bytes → IsBlock b bytes → a ≡ b

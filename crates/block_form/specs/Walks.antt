@@ -1,5 +1,5 @@
 -- What a walk over the bytes of a block knows.
-use Rattle.std.specs.Prelude.{◌≡◌, ℕ, zero, suc, ◌*◌, ◌≤◌, true, if◌then◌else◌, List, [], ◌∷◌, ◌++◌, length, take}
+use Rattle.std.specs.Prelude.{◌≡◌, ℕ, zero, suc, ◌*◌, ◌≤◌, true, if◌then◌else◌, List, [], ◌∷◌, ◌++◌, length, take, drop}
 use Rattle.byteorder.specs.Endian.{big_bytes, big_number}
 use Rattle.peb_base.specs.Keys.{Bytes}
 use Rattle.peb_base.specs.declared.entry.Entry.{Entry}
@@ -66,3 +66,7 @@ entries_from (suc n) before [] = []
 entries_from (suc n) before (b ∷ bytes) =
     entry_from before (parts_from (b ∷ bytes))
     ∷ entries_from n (entry_from before (parts_from (b ∷ bytes))).key (behind_from (b ∷ bytes))
+
+-- the entries that a block's bytes read as, so many and with no test
+abbrev pub entries_in : ℕ → List ℕ → List Entry
+entries_in count bytes = entries_from count [] (drop 1 bytes)

@@ -3,12 +3,13 @@
 ghost use Rattle.std.specs.Prelude.{◌≡◌, ◌<◌, ◌≤◌, List, Some, length, slice_get, IfOk, IsErr};
 ghost use Rattle.peb_base.specs.declared.entry.Entry.{Entry};
 ghost use Rattle.peb_base.specs.EntryRefs.{entry_of};
+ghost use Rattle.peb_base.specs.Tables.{least_number, greatest_number};
 ghost use Rattle.block_form.specs.Form.{IsBlock};
 
 use crate::block_fault::BlockFault;
 use crate::parts::parts_of_block;
 use crate::reading::count_of;
-use crate::scan::{entry_in, place_of};
+use crate::scan::{entry_in, entry_under, found_in, numbers_in, place_of};
 use peb_base::{EntryRef, KeyBuf, Number};
 use std::marker::Model;
 
@@ -89,5 +90,33 @@ impl Block<'_> {
         ensures { slice_get self.now place ≡ Some (entry_of result) }
     {
         entry_in(self.entries, self.count, place, key_out)
+    }
+    /// Puts the key of the entry at a place below the number of entries together in `key_out`.
+    pub fn key_at(&self, place: usize, key_out: &mut KeyBuf)
+        requires { place < length self.now }
+        ensures { (e : Entry) → slice_get self.now place ≡ Some e → key_out.new ≡ e.key }
+    {
+        found_in(self.entries, self.count, place, key_out);
+    }
+
+    /// The least and the greatest number of the entries, of which there is one.
+    pub fn numbers(&self) -> (Number, Number)
+        requires { 0 < length self.now }
+        ensures least { result.0 ≡ least_number self.now }
+        ensures greatest { result.1 ≡ greatest_number self.now }
+    {
+        let (least, greatest) = numbers_in(self.entries, self.count);
+        (Number::of_packed(least), Number::of_packed(greatest))
+    }
+}
+
+impl<'a> Block<'a> {
+    /// The entry at a place below the number of entries, of which this is the key: no key is put together.
+    pub fn entry_under(&self, place: usize, key: &'a [u8]) -> EntryRef<'a>
+        requires place { place < length self.now }
+        requires key { (e : Entry) → slice_get self.now place ≡ Some e → key.now ≡ e.key }
+        ensures { slice_get self.now place ≡ Some (entry_of result) }
+    {
+        entry_under(self.entries, self.count, place, key)
     }
 }

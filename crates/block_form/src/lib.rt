@@ -24,4 +24,4 @@ mod writing;
 pub use block::Block;
 pub use block_builder::BlockBuilder;
 pub use block_fault::BlockFault;
-pub use laws::{block_grows, one_block};
+pub use laws::{block_grows, block_reads, one_block};
