@@ -15,7 +15,7 @@ use crate::{Failed, Journal, Maker, Port, TableHandle};
 pub trait Devices {
     type J: Journal + Send;
 
-    type F: TableHandle;
+    type F: TableHandle + Send + Sync;
 
     type P: Port<File = Self::F> + Send;
 

@@ -1,8 +1,7 @@
 ghost use Rattle.std.specs.Prelude.{Bool, ℕ, List};
 
-/// A handle of a sealed table. Ports read by it, and the table's file stays while there is one. It may be
-/// shared between threads.
-pub trait TableHandle: Send + Sync + Drop {
+/// A handle of a sealed table. Ports read by it, and the table's file stays while there is one.
+pub trait TableHandle: Drop {
     /// Whether ports and makers of such handles tell what tables hold. Those over real files don't.
     ghost tells: { Bool };
 

@@ -112,7 +112,7 @@ impl<R: Files + AllocGlobal + Clone + Drop> RealMaker<R> {
     }
 }
 
-impl<R: Files<File: Send> + AllocGlobal + Clone + Drop + Send + Sync> Maker for RealMaker<R> {
+impl<R: Files + AllocGlobal + Clone + Drop> Maker for RealMaker<R> {
     ghost use Rattle.pebbles_cli.specs.Gone.{gone_of};
 
     type File = RealTable<R>;

@@ -82,7 +82,7 @@ impl<R: Files + AllocGlobal + Clone + Drop> RealPort<R> {
     }
 }
 
-impl<R: Files + AllocGlobal + Clone + Drop + Send + Sync> Port for RealPort<R> {
+impl<R: Files + AllocGlobal + Clone + Drop> Port for RealPort<R> {
     ghost use Rattle.pebbles_cli.specs.Silent.{no_table_files};
 
     type File = RealTable<R>;

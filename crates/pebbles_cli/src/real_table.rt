@@ -65,7 +65,7 @@ impl<R: Files + Drop> Drop for RealTable<R> {
     }
 }
 
-impl<R: Files + Drop + Send + Sync> TableHandle for RealTable<R> {
+impl<R: Files + Drop> TableHandle for RealTable<R> {
     ghost tells = { false };
 
     ghost number = { λ table. table.number };

@@ -1,4 +1,3 @@
-pub mod Ascending
 pub mod Cuts
 pub mod Footers
 pub mod IndexWalk

@@ -13,7 +13,7 @@ use Rattle.table_file.specs.Form.{cut_of, with_last, blocks_of, last_number, ite
 use Rattle.table_file.specs.Items.{ascend_from, ascend, ends_before, index_for, block_for}
 use Rattle.table_file.specs.Opening.{AreItems, IsIndex}
 use Rattle.table_file.specs.declared.index_item.IndexItem.{IndexItem}
-use Rattle.table_file.proofs.Ascending.{after_trans, last_after, front_ascends, rest_ascends}
+use Rattle.table_file.specs.Ascending.{after_trans, last_after, front_ascends, rest_ascends}
 use Rattle.table_file.proofs.Parting.{joined, HaveEntries, parts_cut}
 
 -- the items of an index ascend

@@ -15,7 +15,7 @@ use Rattle.table_file.specs.Blocks.{AreBlocks}
 use Rattle.table_file.specs.Form.{Cut, cut_on, cut_of, with_last, blocks_of, body_bytes, last_number, items_from, index_bytes, key_filter, blocks_table, table_bytes}
 use Rattle.table_file.specs.Opening.{AreItems, OpensAs}
 use Rattle.table_file.specs.declared.footer.Footer.{Footer}
-use Rattle.table_file.proofs.Ascending.{last_after, front_ascends, rest_ascends}
+use Rattle.table_file.specs.Ascending.{last_after, front_ascends, rest_ascends}
 use Rattle.table_file.proofs.Cuts.{length-none, sorted_rest}
 use Rattle.table_file.proofs.Parting.{joined, parts_cut}
 use Rattle.table_file.proofs.Spelled.{length-table}

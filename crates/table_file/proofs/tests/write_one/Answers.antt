@@ -13,8 +13,8 @@ sorted = (record { some = omega arith; key = omega arith; number = omega arith; 
 
 pub push-requires : goal.push-requires
 unfolding entry
-push-requires g c = (search rules, (search rules, ([], c.in_ok-start.ensures.begun, sorted)))
+push-requires g c = ([], c.in_ok-start.ensures.begun, sorted)
 
 pub finish-requires : goal.finish-requires
 unfolding entry
-finish-requires g c = (search rules, (search rules, (entry ∷ [], c.in_ok-push.ensures.pushed [] c.in_ok-start.ensures.begun sorted, omega arith)))
+finish-requires g c = (entry ∷ [], c.in_ok-push.ensures.pushed [] c.in_ok-start.ensures.begun sorted, omega arith)

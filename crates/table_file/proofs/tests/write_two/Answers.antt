@@ -20,13 +20,13 @@ two = (one.0, refl, (record { some = omega arith; key = omega arith; number = om
 
 pub push-requires : goal.push-requires
 unfolding first
-push-requires g c = (search rules, (search rules, ([], c.in_ok-start.ensures.begun, one)))
+push-requires g c = ([], c.in_ok-start.ensures.begun, one)
 
 pub push-requires-2 : goal.push-requires-2
 unfolding first second
-push-requires-2 g c = (search rules, (search rules, (first ∷ [], c.in_ok-push.ensures.pushed [] c.in_ok-start.ensures.begun one, two)))
+push-requires-2 g c = (first ∷ [], c.in_ok-push.ensures.pushed [] c.in_ok-start.ensures.begun one, two)
 
 pub finish-requires : goal.finish-requires
 unfolding first second
 finish-requires g c =
-    (search rules, (search rules, (first ∷ second ∷ [], c.in_ok-push-2.ensures.pushed (first ∷ []) (c.in_ok-push.ensures.pushed [] c.in_ok-start.ensures.begun one) two, omega arith)))
+    (first ∷ second ∷ [], c.in_ok-push-2.ensures.pushed (first ∷ []) (c.in_ok-push.ensures.pushed [] c.in_ok-start.ensures.begun one) two, omega arith)

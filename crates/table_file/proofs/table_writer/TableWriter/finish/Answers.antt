@@ -14,10 +14,10 @@ returns-in-Err-clause-limit g c = λ es pushed some.
     (c.in-Err.ensures.refused closed pushed.keeps.index_is (ends_with _ _ _ _ _ _ _ _ _ es pushed.keeps))
 
 pub seal_table-requires-clause-begun : goal.seal_table-requires-clause-begun
-seal_table-requires-clause-begun g c κs within = c.in-Ok.ensures.begun ∙ c.requires.1.keeps.begun_is
+seal_table-requires-clause-begun g c = c.in-Ok.ensures.begun ∙ c.requires.1.keeps.begun_is
 
 pub seal_table-requires-clause-entries : goal.seal_table-requires-clause-entries
-seal_table-requires-clause-entries g c κs within =
+seal_table-requires-clause-entries g c =
     let es = c.requires.0 in
     let pushed = c.requires.1 in
     let closed = (cut_of c.args.self.now.builder.full es).closed in (
