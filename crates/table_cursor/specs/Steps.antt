@@ -1,0 +1,36 @@
+-- Where a step of a cursor leads.
+use Rattle.std.specs.Prelude.{◌≡◌, ℕ, suc, ◌+◌, ◌-◌, ◌<◌, ◌≤◌, List, length, nat_lt, if◌then◌else◌, Option, Some, None, Result, Err}
+use Rattle.peb_base.specs.Faults.{Rose}
+use Rattle.peb_base.specs.declared.entry.Entry.{Entry}
+use Rattle.peb_base.specs.declared.read_fault.ReadFault.{ReadFault}
+use Rattle.peb_base.specs.declared.read_fault.ReadFault.TheVariants.{Fault}
+use Rattle.disk_model.specs.Tables.{TableFiles}
+use Rattle.table_cursor.specs.Page.{Reading}
+use Rattle.table_cursor.specs.Standing.{entries_before}
+use Rattle.table_cursor.specs.declared.step.Step.{Step}
+use Rattle.table_cursor.specs.declared.step.Step.TheVariants.{Nowhere, Within, First, Last}
+
+-- this, where there is a block at the index
+abbrev pub where_block : ℕ → List (List Entry) → ℕ → Option ℕ
+where_block index blocks place = if nat_lt index (length blocks) then Some place else None
+
+-- the place among the entries of all blocks to which a step leads from a page on which the block at the index is
+abbrev pub target : Step → ℕ → List (List Entry) → Option ℕ
+target Nowhere index blocks = None
+target (Within place) index blocks = Some (entries_before index blocks + place)
+target (First i) index blocks = where_block i blocks (entries_before i blocks)
+target (Last i) index blocks = where_block i blocks (entries_before (suc i) blocks - 1)
+
+-- a step within the block leads to one of its entries
+abbrev pub Fits : Step → Reading → Type 0
+Fits Nowhere page = Unit {0}
+Fits (Within place) page = place < length page.entries
+Fits (First i) page = Unit {0}
+Fits (Last i) page = Unit {0}
+
+-- a move makes one read at most, and fails only where the port failed; the port's tables stay
+pub record Costs (reads0 reads faults0 faults : ℕ) (files0 files : TableFiles) (result : Result (Unit {0}) ReadFault) : Type 0 where
+  pub once : reads ≤ reads0 + 1
+  pub later : faults0 ≤ faults
+  pub cause : result ≡ Err Fault → Rose faults0 faults
+  pub stay : files ≡ files0
