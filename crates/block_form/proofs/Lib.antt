@@ -2,4 +2,5 @@ pub mod Prefixes
 pub mod Pushes
 pub mod Scans
 pub mod Spelling
+pub mod Spots
 pub mod Walks

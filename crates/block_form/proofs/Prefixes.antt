@@ -186,12 +186,6 @@ prefix-stop zero (x ∷ xs) (y ∷ ys) h k e =
     ap (λ b. if b then suc (common_prefix xs ys) else 0) other
 prefix-stop (suc n) (x ∷ xs) (y ∷ ys) h k e = prefix-stop n xs ys (omega arith) (omega arith) e
 
-pub prefix-past : (n : ℕ) (xs ys : Bytes) → length xs ≤ n → common_prefix (drop n xs) ys ≡ 0
-prefix-past zero [] ys h = refl
-prefix-past zero (x ∷ xs) ys h = absurd (omega arith)
-prefix-past (suc n) [] ys h = refl
-prefix-past (suc n) (x ∷ xs) ys h = prefix-past n xs ys (omega arith)
-
 pub prefix-past_right : (n : ℕ) (xs ys : Bytes) → length ys ≤ n → common_prefix xs (drop n ys) ≡ 0
 prefix-past_right n xs ys h = prefix-none xs (drop n ys) (omega (arith, length-drop n ys))
 

@@ -51,16 +51,6 @@ head_again bytes long fit =
     let fourth = again_4 (drop 13 bytes) (omega (arith, length-drop 13 bytes)) (fit_drop 13 bytes fit) in
     (λ i. first i ++ (second i ++ (third i ++ (get_or bytes 12 0 ∷ fourth i)))) ∙ joined bytes long
 
-pub head_fits : (bytes : List ℕ) → 17 ≤ length bytes → Fit bytes → FitsHead (head_from bytes)
-unfolding head_from
-head_fits bytes long fit =
-    record {
-      shared = big_from-lt 0 2 bytes fit;
-      rest = big_from-lt 0 2 (drop 2 bytes) (fit_drop 2 bytes fit);
-      number = big_from-lt 0 8 (drop 4 bytes) (fit_drop 4 bytes fit);
-      value = big_from-lt 0 4 (drop 13 bytes) (fit_drop 13 bytes fit);
-    }
-
 pub length-head : (h : Head) → length (head_bytes h) ≡ 17
 unfolding head_bytes
 length-head h = refl

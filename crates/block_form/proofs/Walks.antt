@@ -62,12 +62,6 @@ step_up place at on before above bytes places p behind left es next placed moved
       placed = placed ∙ ap (λ l. places_at place at ++ l) spelled.placed ∙ sym (restarts-one place at before e es);
     }
 
--- bytes that are some entries begin with one
-pub some_left : (place at : ℕ) (before : Bytes) (above : ℕ) (bytes places : List ℕ) (es : List Entry) → 0 < length bytes → Spells place at before above es bytes places
-    → (e : Entry) × (more : List Entry) × (es ≡ e ∷ more)
-some_left place at before above bytes places [] some spells = absurd (omega (arith, ap length (spells.spelled ∙ entries-none place before)))
-some_left place at before above bytes places (e ∷ more) some spells = (e, more, refl)
-
 pub step_none : (place at : ℕ) (before : Bytes) (above : ℕ) (bytes places : List ℕ) (es : List Entry) → 0 < length bytes
     → ((e : Entry) (behind : List ℕ) → IsEntry e → comes_before before above e.key e.number ≡ true → bytes ≢ entry_bytes place before e ++ behind)
     → Spells place at before above es bytes places → ⊥

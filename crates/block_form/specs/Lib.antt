@@ -2,4 +2,5 @@ pub mod Building
 pub mod Form
 pub mod Parts
 pub mod Rows
+pub mod Spots
 pub mod Walks

@@ -1,15 +1,17 @@
 //! Blocks that were read.
 
-ghost use Rattle.std.specs.Prelude.{◌≡◌, ◌<◌, ◌≤◌, List, Some, length, slice_get, IfOk, IsErr};
+ghost use Rattle.std.specs.Prelude.{◌≡◌, ◌<◌, ◌≤◌, ◌+◌, List, Some, length, slice_get, IfOk, IsErr};
 ghost use Rattle.peb_base.specs.declared.entry.Entry.{Entry};
 ghost use Rattle.peb_base.specs.EntryRefs.{entry_of};
 ghost use Rattle.peb_base.specs.Tables.{least_number, greatest_number};
 ghost use Rattle.block_form.specs.Form.{IsBlock};
+ghost use Rattle.block_form.specs.Spots.{offset_of};
 
 use crate::block_fault::BlockFault;
 use crate::parts::parts_of_block;
 use crate::reading::count_of;
 use crate::scan::{entry_in, entry_under, found_in, numbers_in, place_of};
+use crate::stepped::{peek, step};
 use peb_base::{EntryRef, KeyBuf, Number};
 use std::marker::Model;
 
@@ -99,6 +101,42 @@ impl Block<'_> {
         found_in(self.entries, self.count, place, key_out);
     }
 
+    /// Where the entry behind the one at a place begins, which begins here itself; both are counted from the first entry.
+    pub fn offset_behind(&self, place: usize, at: usize) -> usize
+        requires place { place < length self.now }
+        requires at { at ≡ offset_of place self.now }
+        ensures { result ≡ offset_of (place + 1) self.now }
+    {
+        let rest = &self.entries[at..];
+        self.entries.len() - peek(rest).behind.len()
+    }
+
+    /// Goes from the key of the entry at a place to that of the entry behind it, which begins here.
+    pub fn key_behind(&self, place: usize, at: usize, key: &mut KeyBuf)
+        requires place { place + 1 < length self.now }
+        requires at { at ≡ offset_of (place + 1) self.now }
+        requires key { (e : Entry) → slice_get self.now place ≡ Some e → key.old ≡ e.key }
+        ensures { (e : Entry) → slice_get self.now (place + 1) ≡ Some e → key.new ≡ e.key }
+    {
+        let rest = &self.entries[at..];
+        step(key, rest);
+    }
+
+    /// Puts the key of the entry at a place below the number of entries together in `key`, and gives where the entry begins.
+    pub fn go(&self, place: usize, key: &mut KeyBuf) -> usize
+        requires { place < length self.now }
+        ensures at { result ≡ offset_of place self.now }
+        ensures key { (e : Entry) → slice_get self.now place ≡ Some e → key.new ≡ e.key }
+    {
+        self.key_at(0, key);
+        let mut at = 0;
+        for i in 0..place {
+            at = self.offset_behind(i, at);
+            self.key_behind(i, at, key);
+        }
+        at
+    }
+
     /// The least and the greatest number of the entries, of which there is one.
     pub fn numbers(&self) -> (Number, Number)
         requires { 0 < length self.now }
@@ -118,5 +156,21 @@ impl<'a> Block<'a> {
         ensures { slice_get self.now place ≡ Some (entry_of result) }
     {
         entry_under(self.entries, self.count, place, key)
+    }
+
+    /// The entry at a place below the number of entries, which begins here and of which this is the key.
+    pub fn entry_here(&self, place: usize, at: usize, key: &'a [u8]) -> EntryRef<'a>
+        requires place { place < length self.now }
+        requires at { at ≡ offset_of place self.now }
+        requires key { (e : Entry) → slice_get self.now place ≡ Some e → key.now ≡ e.key }
+        ensures { slice_get self.now place ≡ Some (entry_of result) }
+    {
+        let rest = &self.entries[at..];
+        let found = peek(rest);
+        EntryRef {
+            key,
+            number: found.number,
+            change: found.change,
+        }
     }
 }

@@ -3,6 +3,7 @@
 ghost use Rattle.std.specs.Prelude.{◌≡◌, ◌++◌, List, ℕ};
 ghost use Rattle.peb_base.specs.EntryRefs.{change_of};
 ghost use Rattle.peb_base.specs.Entries.{IsEntry};
+ghost use Rattle.peb_base.specs.Keys.{Bytes};
 ghost use Rattle.peb_base.specs.declared.entry.Entry.{Entry};
 ghost use Rattle.block_form.specs.Form.{entry_bytes};
 ghost use Rattle.block_form.specs.Walks.{BeginsWithEntry};
@@ -16,6 +17,22 @@ pub struct Stepped<'a> {
     pub number: u64,
     pub change: ChangeRef<'a>,
     pub behind: &'a [u8],
+}
+
+/// What the entry at the front, which is known to stand there behind some key, has behind its own key.
+pub fn peek(rest: &[u8]) -> Stepped<'_>
+    requires { (before : Bytes) × BeginsWithEntry before rest.now }
+    ensures { (place : ℕ) (before : Bytes) (e : Entry) (more : List ℕ) → IsEntry e → rest.now ≡ entry_bytes place before e ++ more → (result.number ≡ e.number) × (change_of result.change ≡ e.change) × (result.behind.now ≡ more) }
+{
+    let Some(found) = fields_at(rest) else {
+        unreachable!();
+    };
+    let (fields, behind) = found;
+    Stepped {
+        number: fields.number,
+        change: fields.change,
+        behind,
+    }
 }
 
 /// Goes over the entry at the front, which is known to stand there, and leaves its key.

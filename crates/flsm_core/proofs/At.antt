@@ -14,7 +14,7 @@ use Rattle.record_log.specs.Groups.{record_bytes}
 use Rattle.record_log.specs.State.{log_file, log_place, log_tail}
 use Rattle.record_log.specs.Ready.{ready_with}
 use Rattle.flsm_core.specs.declared.state.State.{State}
-use Rattle.flsm_core.specs.Device.{Device}
+use Rattle.disk_model.specs.declared.journal.Journal.{Ghosts}
 use Rattle.flsm_core.specs.Logs.{Held, IsBatchIn, Stands, record_of}
 use Rattle.flsm_core.specs.Opening.{Quiet}
 use Rattle.flsm_core.specs.Place.{Place, all_of, opened, next_number, with_batch, all_settled, halted}
@@ -54,7 +54,7 @@ pub record HasPut {J : Type 0} (old new : State J) (n : ℕ) (op : Op) : Type 0 
   pub batch : IsBatchIn old.session (n, op ∷ [])
 
 -- the same rest with another tail in the log
-rests_moved : {D : Type 0} (d : Device D) (journal : D) (log log' : LogFile) (session : ℕ) (p : Place) (b : Batches) → log_file log' ≡ log_file log → log_place log' ≡ log_place log
+rests_moved : {D : Type 0} (d : Ghosts D) (journal : D) (log log' : LogFile) (session : ℕ) (p : Place) (b : Batches) → log_file log' ≡ log_file log → log_place log' ≡ log_place log
     → Rests d journal log session p → Rests d journal log' session (record p { waiting = b })
 rests_moved d journal log log' session p b file place rests = record {
   logs = rests.logs;
@@ -68,7 +68,7 @@ rests_moved d journal log log' session p b file place rests = record {
   only = rests.only;
 }
 
-rests_put : {D : Type 0} (d : Device D) (old new : State D) (n : ℕ) (op : Op) (p : Place) (b : Batches) → HasPut old new n op
+rests_put : {D : Type 0} (d : Ghosts D) (old new : State D) (n : ℕ) (op : Op) (p : Place) (b : Batches) → HasPut old new n op
     → Rests d old.journal old.log old.session p → Rests d new.journal new.log new.session (record p { waiting = b })
 rests_put {D} d old new n op p b did rests =
     subst (λ (s : ℕ). Rests d new.journal new.log s (record p { waiting = b })) (sym did.session)
@@ -87,7 +87,7 @@ waits_put old new n op p did waits = record {
 abbrev one_more : Place → ℕ → Op → Place
 one_more p n op = record p { waiting = p.waiting ++ (n, op ∷ []) ∷ [] }
 
-at_one_more : {D : Type 0} (d : Device D) (old new : State D) (n : ℕ) (op : Op) (p : Place) → HasPut old new n op → last_number (all_of p) < n
+at_one_more : {D : Type 0} (d : Ghosts D) (old new : State D) (n : ℕ) (op : Op) (p : Place) → HasPut old new n op → last_number (all_of p) < n
     → IsAt d old p → IsAt d new (one_more p n op)
 at_one_more {D} d old new n op p did next is =
     let grown : all_of (one_more p n op) ≡ all_of p ++ (n, op ∷ []) ∷ [] = sym (append_assoc p.settled p.waiting ((n, op ∷ []) ∷ [])) in
@@ -110,7 +110,7 @@ at_one_more {D} d old new n op p did next is =
     }
 
 -- a put leads to its place
-pub at_put : {D : Type 0} (d : Device D) (old new : State D) (session n : ℕ) (op : Op) (p : Place) → HasPut old new n op → n ≡ next_number session (all_of p)
+pub at_put : {D : Type 0} (d : Ghosts D) (old new : State D) (session n : ℕ) (op : Op) (p : Place) → HasPut old new n op → n ≡ next_number session (all_of p)
     → IsAt d old p → IsAt d new (with_batch session p (op ∷ []))
 at_put d old new session n op p did numbered is =
     let next : last_number (all_of p) < n = omega (arith, numbered) in
@@ -119,7 +119,7 @@ at_put d old new session n op p did numbered is =
 -- ---- the tail's group was closed
 
 -- the images of all moments since the opening, over one more call
-since_on : {D : Type 0} (d : Device D) (old new : D) (p : Place) (all : Batches) → p.start ≤ d.moment old → IsFront p.base p.settled
+since_on : {D : Type 0} (d : Ghosts D) (old new : D) (p : Place) (all : Batches) → p.start ≤ d.moment old → IsFront p.base p.settled
     → Elapses (d.moment old) (d.moment new) (d.left_since old) (d.left_since new)
     → ((image : Image) → d.left_since old p.start image → Leaves p.base all image)
     → ((image : Image) → d.left_since new (d.moment old) image → Leaves p.settled all image)
@@ -132,7 +132,7 @@ since_on d old new p all began grown time past during image left = elim (time.no
 all_same : (p : Place) → all_of (all_settled p) ≡ all_of p
 all_same p = append-nil (all_of p)
 
-pub at_synced : {D : Type 0} (d : Device D) (old new : State D) (p : Place) → new.session ≡ old.session → new.stopped ≡ old.stopped → new.last ≡ old.last → new.current ≡ old.current → p.stopped ≡ false
+pub at_synced : {D : Type 0} (d : Ghosts D) (old new : State D) (p : Place) → new.session ≡ old.session → new.stopped ≡ old.stopped → new.last ≡ old.last → new.current ≡ old.current → p.stopped ≡ false
     → log_tail new.log ≡ [] → Elapses (d.moment old.journal) (d.moment new.journal) (d.left_since old.journal) (d.left_since new.journal)
     → (IsTrue d.tells → HasClosed d old.journal new.journal old.log new.log)
     → IsAt d old p → IsAt d new (all_settled p)
@@ -158,7 +158,7 @@ at_synced {D} d old new p session stopped last current fine tail time call is =
     }
 
 -- the journal failed while the group was closed
-pub at_halted : {D : Type 0} (d : Device D) (old new : State D) (p : Place) → new.stopped ≡ true → new.last ≡ old.last → new.current ≡ old.current
+pub at_halted : {D : Type 0} (d : Ghosts D) (old new : State D) (p : Place) → new.stopped ≡ true → new.last ≡ old.last → new.current ≡ old.current
     → Elapses (d.moment old.journal) (d.moment new.journal) (d.left_since old.journal) (d.left_since new.journal)
     → (IsTrue d.tells → (image : Image) → d.may_leave new.journal image → d.left_since new.journal (d.moment old.journal) image)
     → (IsTrue d.tells → IsTrue p.honest → (image : Image) → d.left_since new.journal (d.moment old.journal) image → Leaves p.settled (all_of p) image)
@@ -177,7 +177,7 @@ at_halted d old new p stopped last current time counts during is = record {
 }
 
 -- while the group is closed a crash leaves the settled batches or all
-pub during_close : {D : Type 0} (d : Device D) (old : State D) (new : D) (p : Place) → p.stopped ≡ false → IsAt d old p → IsTrue d.tells → IsTrue p.honest
+pub during_close : {D : Type 0} (d : Ghosts D) (old : State D) (new : D) (p : Place) → p.stopped ≡ false → IsAt d old p → IsTrue d.tells → IsTrue p.honest
     → ClosesAny d old.journal new old.log
     → (image : Image) → d.left_since new (d.moment old.journal) image → Leaves p.settled (all_of p) image
 during_close d old new p fine is told honest any image left = close_leaves d old.journal new old.log old.session p image (is.rests told fine) (is.waits fine) is.ordered honest any left
@@ -197,7 +197,7 @@ leaves_all : (batches : Batches) (image : Image) → Stands batches image → Le
 leaves_all batches image stands = record { batches = batches; enough = front_refl batches; within = front_more batches []; stands = stands }
 
 -- after an opening the state stands at its beginning
-pub at_opened : {D : Type 0} (d : Device D) (mid : D) (new : State D) (start : ℕ) (honest : Bool) (k opening : ℕ) (header : Header) (logs : List Held) (batches : Batches)
+pub at_opened : {D : Type 0} (d : Ghosts D) (mid : D) (new : State D) (start : ℕ) (honest : Bool) (k opening : ℕ) (header : Header) (logs : List Held) (batches : Batches)
     → k ≡ suc (length logs) → header.session ≡ opening → start ≤ d.moment mid → HasOpened new opening batches
     → Elapses (d.moment mid) (d.moment new.journal) (d.left_since mid) (d.left_since new.journal)
     → (IsTrue d.tells → Quiet d mid honest logs batches) → (IsTrue d.tells → HasCreated d mid new.journal k header new.log)

@@ -12,7 +12,7 @@ use Rattle.record_log.specs.Crash.{Creates}
 use Rattle.record_log.specs.Groups.{records_bytes, with_group}
 use Rattle.record_log.specs.State.{log_file, log_tail}
 use Rattle.record_log.specs.Ready.{IsReady, IsBeforeOrAfter}
-use Rattle.flsm_core.specs.Device.{Device}
+use Rattle.disk_model.specs.declared.journal.Journal.{Ghosts}
 use Rattle.std.specs.List.{AllByRecursion}
 use Rattle.flsm_core.specs.Logs.{Held, IsBatchIn, HoldsLogs, SpellsAll, Stands, record_of}
 use Rattle.flsm_core.specs.Opening.{Quiet}
@@ -43,11 +43,11 @@ stands_of batches logs image holds spells ordered none = record {
 }
 
 -- an image that a step of one log leaves, where before it a crash left the logs as read
-pub record Steps {D : Type 0} (d : Device D) (old : D) (k : ℕ) (R : Option (List ℕ) → Option (List ℕ) → Type 0) (image : Image) : Type 0 where
+pub record Steps {D : Type 0} (d : Ghosts D) (old : D) (k : ℕ) (R : Option (List ℕ) → Option (List ℕ) → Type 0) (image : Image) : Type 0 where
   pub here : R (d.seen old (Log k)) (image (Log k))
   pub elsewhere : AgreeBut k image (d.seen old)
 
-pub stepped : {D : Type 0} (d : Device D) (old : D) (k : ℕ) (R : Option (List ℕ) → Option (List ℕ) → Type 0) (since : Image → Type 0) → 0 < k
+pub stepped : {D : Type 0} (d : Ghosts D) (old : D) (k : ℕ) (R : Option (List ℕ) → Option (List ℕ) → Type 0) (since : Image → Type 0) → 0 < k
     → ((image : Image) → d.may_leave old image → Agree image (d.seen old)) → Follows (In (Log k) R) (d.may_leave old) since
     → (image : Image) → since image → Steps d old k R image
 stepped d old k R since some only follows image left =
@@ -59,13 +59,13 @@ stepped d old k R since some only follows image left =
 -- ---- closing a group
 
 -- what the closing of a group promises of each moment of it
-abbrev pub ClosesAny : {D : Type 0} → Device D → D → D → LogFile → Type 0
+abbrev pub ClosesAny : {D : Type 0} → Ghosts D → D → D → LogFile → Type 0
 ClosesAny d old new log = (header : Header) (groups : List (List (List ℕ))) (bodies : List (List ℕ))
     → IsReady d.tells d.seen d.may_leave old log header groups → log_tail log ≡ records_bytes bodies
     → Follows (In (log_file log) (λ before after. IsBeforeOrAfter (log_file log) header groups bodies after)) (d.may_leave old) (d.left_since new (d.moment old))
 
 -- while the group is closed, a crash leaves the settled batches or all of them
-pub close_leaves : {D : Type 0} (d : Device D) (old new : D) (log : LogFile) (session : ℕ) (p : Place) (image : Image)
+pub close_leaves : {D : Type 0} (d : Ghosts D) (old new : D) (log : LogFile) (session : ℕ) (p : Place) (image : Image)
     → Rests d old log session p → Waits log session p → are_in_order (all_of p) ≡ true → IsTrue p.honest → ClosesAny d old new log
     → d.left_since new (d.moment old) image → Leaves p.settled (all_of p) image
 close_leaves d old new log session p image rests waits ordered honest any left =
@@ -100,7 +100,7 @@ close_leaves d old new log session p image rests waits ordered honest any left =
     ]
 
 -- what an Ok of the closing says
-pub record HasClosed {D : Type 0} (d : Device D) (old new : D) (log log' : LogFile) : Type 0 where
+pub record HasClosed {D : Type 0} (d : Ghosts D) (old new : D) (log log' : LogFile) : Type 0 where
   pub images : ClosesAny d old new log
   pub counts : (image : Image) → d.may_leave new image → d.left_since new (d.moment old) image
   pub ready : (header : Header) (groups : List (List (List ℕ))) (bodies : List (List ℕ)) → IsReady d.tells d.seen d.may_leave old log header groups → log_tail log ≡ records_bytes bodies
@@ -110,7 +110,7 @@ pub record HasClosed {D : Type 0} (d : Device D) (old new : D) (log log' : LogFi
   pub elsewhere : (other : JournalFile) → other ≢ log_file log → d.seen new other ≡ d.seen old other
 
 -- calls on one log leave the others as read, in each image, and that log as it is read after them
-pub only_on : {D : Type 0} (d : Device D) (old new : D) (k : ℕ) (R : Option (List ℕ) → Option (List ℕ) → Type 0) → 0 < k
+pub only_on : {D : Type 0} (d : Ghosts D) (old new : D) (k : ℕ) (R : Option (List ℕ) → Option (List ℕ) → Type 0) → 0 < k
     → ((image : Image) → d.may_leave old image → Agree image (d.seen old)) → Follows (In (Log k) R) (d.may_leave old) (d.left_since new (d.moment old))
     → ((image : Image) → d.may_leave new image → d.left_since new (d.moment old) image)
     → Keeps (Log k) (d.seen new (Log k)) (d.may_leave new) → AgreeBut k (d.seen new) (d.seen old)
@@ -123,7 +123,7 @@ only_on d old new k R some only follows counts kept elsewhere image left m is =
     ]
 
 -- after it the journal has all batches
-pub close_rests : {D : Type 0} (d : Device D) (old new : D) (log log' : LogFile) (session : ℕ) (p : Place)
+pub close_rests : {D : Type 0} (d : Ghosts D) (old new : D) (log log' : LogFile) (session : ℕ) (p : Place)
     → Rests d old log session p → Waits log session p → HasClosed d old new log log' → Rests d new log' session (all_settled p)
 close_rests d old new log log' session p rests waits call =
     let k : ℕ = suc (length rests.logs) in
@@ -151,7 +151,7 @@ close_rests d old new log log' session p rests waits call =
     }
 
 -- where nothing is under way, a crash leaves the settled batches
-pub rests_leaves : {D : Type 0} (d : Device D) (journal : D) (log : LogFile) (session : ℕ) (p : Place) (image : Image)
+pub rests_leaves : {D : Type 0} (d : Ghosts D) (journal : D) (log : LogFile) (session : ℕ) (p : Place) (image : Image)
     → Rests d journal log session p → are_in_order (all_of p) ≡ true → IsTrue p.honest → d.may_leave journal image → Leaves p.settled (all_of p) image
 rests_leaves d journal log session p image rests ordered honest left =
     let same = rests.only honest image left in
@@ -166,7 +166,7 @@ rests_leaves d journal log session p image rests ordered honest left =
 -- ---- creating the next log
 
 -- what an Ok of creating a log says
-pub record HasCreated {D : Type 0} (d : Device D) (old new : D) (k : ℕ) (header : Header) (log : LogFile) : Type 0 where
+pub record HasCreated {D : Type 0} (d : Ghosts D) (old new : D) (k : ℕ) (header : Header) (log : LogFile) : Type 0 where
   pub images : Follows (In (Log k) (Creates (Log k) header)) (d.may_leave old) (d.left_since new (d.moment old))
   pub counts : (image : Image) → d.may_leave new image → d.left_since new (d.moment old) image
   pub ready : IsReady d.tells d.seen d.may_leave new log header []
@@ -175,7 +175,7 @@ pub record HasCreated {D : Type 0} (d : Device D) (old new : D) (k : ℕ) (heade
   pub elsewhere : (other : JournalFile) → other ≢ Log k → d.seen new other ≡ d.seen old other
 
 -- while the next log is created, a crash leaves the batches
-pub create_leaves : {D : Type 0} (d : Device D) (old new : D) (honest : Bool) (k : ℕ) (header : Header) (logs : List Held) (batches : Batches) (image : Image)
+pub create_leaves : {D : Type 0} (d : Ghosts D) (old new : D) (honest : Bool) (k : ℕ) (header : Header) (logs : List Held) (batches : Batches) (image : Image)
     → k ≡ suc (length logs) → Quiet d old honest logs batches → IsTrue honest → Follows (In (Log k) (Creates (Log k) header)) (d.may_leave old) (d.left_since new (d.moment old))
     → d.left_since new (d.moment old) image → Stands batches image
 create_leaves d old new honest k header logs batches image at quiet sure follows left =
@@ -196,7 +196,7 @@ create_leaves d old new honest k header logs batches image at quiet sure follows
     ]
 
 -- then the state is at rest
-pub create_rests : {D : Type 0} (d : Device D) (old new : D) (honest : Bool) (k start session : ℕ) (header : Header) (log : LogFile) (logs : List Held) (batches : Batches)
+pub create_rests : {D : Type 0} (d : Ghosts D) (old new : D) (honest : Bool) (k start session : ℕ) (header : Header) (log : LogFile) (logs : List Held) (batches : Batches)
     → k ≡ suc (length logs) → header.session ≡ session → Quiet d old honest logs batches → HasCreated d old new k header log
     → Rests d new log session (opened start honest batches)
 create_rests d old new honest k start session header log logs batches at owned quiet call =

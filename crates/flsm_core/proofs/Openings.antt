@@ -18,7 +18,7 @@ use Rattle.record_log.specs.Records.{bodies_of, views}
 use Rattle.flsm_core.specs.declared.open_fault.OpenFault.{OpenFault}
 use Rattle.flsm_core.specs.declared.open_fault.OpenFault.TheVariants as opens
 use Rattle.flsm_core.specs.declared.found.Found.{Found}
-use Rattle.flsm_core.specs.Device.{Device}
+use Rattle.disk_model.specs.declared.journal.Journal.{Ghosts}
 use Rattle.flsm_core.specs.Logs.{Held, flat, BeginsLogs, HoldsLogs, Reads, Stands}
 use Rattle.flsm_core.specs.Opening.{IsFound, CantGoOn, AddCause, OpenCause, HasWatched, AreKept, OpensOn, Quiet, fault_of}
 use Rattle.flsm_core.proofs.Founds.{OneLog, Undamaged, Finished, unreadable_log, unreadable_records, bodies_read, one_reading, SameReading}
@@ -70,7 +70,7 @@ taken false seen number header records holds =
 
 -- ---- several reads in a row
 
-pub watched_none : {D : Type 0} (d : Device D) (journal : D) → ((t : ℕ) (image : Image) → t ≤ d.moment journal → d.may_leave journal image → d.left_since journal t image)
+pub watched_none : {D : Type 0} (d : Ghosts D) (journal : D) → ((t : ℕ) (image : Image) → t ≤ d.moment journal → d.may_leave journal image → d.left_since journal t image)
     → ((image : Image) → d.left_since journal (d.moment journal) image → d.may_leave journal image) → HasWatched d journal journal
 watched_none d journal counts only = record {
   seen = refl;
@@ -78,7 +78,7 @@ watched_none d journal counts only = record {
   each = λ image left. (image, only image left, λ m. refl);
 }
 
-pub watched_on : {D : Type 0} (d : Device D) (old mid new : D) → ((image : Image) → d.may_leave mid image → d.left_since mid (d.moment old) image)
+pub watched_on : {D : Type 0} (d : Ghosts D) (old mid new : D) → ((image : Image) → d.may_leave mid image → d.left_since mid (d.moment old) image)
     → HasWatched d old mid → HasWatched d mid new → HasWatched d old new
 watched_on d old mid new counts one two = record {
   seen = two.seen ∙ one.seen;
@@ -89,13 +89,13 @@ watched_on d old mid new counts one two = record {
   ];
 }
 
-pub kept_on : {D : Type 0} (d : Device D) (old new : D) (n : ℕ) → ((image : Image) → d.may_leave new image → d.left_since new (d.moment old) image)
+pub kept_on : {D : Type 0} (d : Ghosts D) (old new : D) (n : ℕ) → ((image : Image) → d.may_leave new image → d.left_since new (d.moment old) image)
     → HasWatched d old new → AreKept d old n → AreKept d new n
 kept_on d old new n counts watched kept m some within image left =
     let from = watched.each image (counts image left) in
     from.2 m ∙ kept m some within from.0 from.1 ∙ ap (λ (i : Image). i (Log m)) (sym watched.seen)
 
-pub kept_more : {D : Type 0} (d : Device D) (old new : D) (n : ℕ) → HasWatched d old new → Keeps (Log (n + 1)) (d.seen old (Log (n + 1))) (d.may_leave new) → AreKept d new n → AreKept d new (n + 1)
+pub kept_more : {D : Type 0} (d : Ghosts D) (old new : D) (n : ℕ) → HasWatched d old new → Keeps (Log (n + 1)) (d.seen old (Log (n + 1))) (d.may_leave new) → AreKept d new n → AreKept d new (n + 1)
 kept_more d old new n watched next kept m some within = elim (cases_lt n m) [
   | inl last ↦ let at : n + 1 ≡ m = omega (arith, last, within) in
       subst (λ (k : ℕ). Keeps (Log k) (d.seen new (Log k)) (d.may_leave new)) at
@@ -129,7 +129,7 @@ each_stands true base seen may_leave sure on = on
 each_stands false base seen may_leave sure on = absurd (cc)
 
 -- what the reading of the logs found
-pub record Read {D : Type 0} (d : Device D) (old new : D) (held : List Held) (batches : Batches) : Type 0 where
+pub record Read {D : Type 0} (d : Ghosts D) (old new : D) (held : List Held) (batches : Batches) : Type 0 where
   pub reads : Reads (d.seen old) held batches
   pub watched : HasWatched d old new
   pub kept : AreKept d new (suc (length held))
@@ -137,11 +137,11 @@ pub record Read {D : Type 0} (d : Device D) (old new : D) (held : List Held) (ba
   pub read : d.may_leave old (d.seen old)
 
 -- it found the base
-pub same_base : Finished → OneLog → OneBatch → {D : Type 0} (d : Device D) (old new : D) (held : List Held) (batches base : Batches) → Read d old new held batches → (stands : Stands base (d.seen old))
+pub same_base : Finished → OneLog → OneBatch → {D : Type 0} (d : Ghosts D) (old new : D) (held : List Held) (batches base : Batches) → Read d old new held batches → (stands : Stands base (d.seen old))
     → SameReading held stands.logs batches base
 same_base fin one batch d old new held batches base found stands = one_reading fin one batch (d.seen old) held stands.logs batches base found.reads stands.reads
 
-pub quiet_after : Finished → OneLog → OneBatch → {D : Type 0} (d : Device D) (old new : D) (honest : Bool) (held : List Held) (batches base : Batches) → Read d old new held batches
+pub quiet_after : Finished → OneLog → OneBatch → {D : Type 0} (d : Ghosts D) (old new : D) (honest : Bool) (held : List Held) (batches base : Batches) → Read d old new held batches
     → OpensOn honest base (d.seen old) (d.may_leave old) → Quiet d new honest held batches
 quiet_after fin one batch d old new honest held batches base found on =
     let stands = stands_read honest base (d.seen old) (d.may_leave old) found.read on in
@@ -164,7 +164,7 @@ quiet_after fin one batch d old new honest held batches base found on =
       ];
     }
 
-pub past_stands : {D : Type 0} (d : Device D) (old new : D) (honest : Bool) (held : List Held) (batches base : Batches) → Read d old new held batches → IsTrue honest
+pub past_stands : {D : Type 0} (d : Ghosts D) (old new : D) (honest : Bool) (held : List Held) (batches base : Batches) → Read d old new held batches → IsTrue honest
     → OpensOn honest base (d.seen old) (d.may_leave old) → (image : Image) → d.left_since new (d.moment old) image → Stands base image
 past_stands d old new honest held batches base found sure on image left =
     let from = found.watched.each image left in

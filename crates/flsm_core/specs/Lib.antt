@@ -1,4 +1,3 @@
-pub mod Device
 pub mod Logs
 pub mod Opening
 pub mod Pairs

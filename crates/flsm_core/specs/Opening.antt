@@ -18,7 +18,7 @@ use Rattle.flsm_core.specs.declared.replay_fault.ReplayFault.{ReplayFault}
 use Rattle.flsm_core.specs.declared.replay_fault.ReplayFault.TheVariants as replays
 use Rattle.flsm_core.specs.declared.replay.Replay.{Replay}
 use Rattle.flsm_core.specs.declared.found.Found.{Found}
-use Rattle.flsm_core.specs.Device.{Device}
+use Rattle.disk_model.specs.declared.journal.Journal.{Ghosts}
 use Rattle.flsm_core.specs.Logs.{Held, AreRecords, SpellsAll, Reads, Stands, greatest_session}
 
 -- what an opening rests on: each image that a crash may leave stands for the base, or at least what reads give does
@@ -70,13 +70,13 @@ pub record IsFound (profile : Profile) (found : Found) (logs : List Held) (batch
   pub same : AllByRecursion (λ log. log.header.profile ≡ profile) logs
 
 -- only reads and syncs came between: what reads give is the same, and each image since then has the logs of one of before
-pub record HasWatched {D : Type 0} (d : Device D) (old new : D) : Type 0 where
+pub record HasWatched {D : Type 0} (d : Ghosts D) (old new : D) : Type 0 where
   pub seen : d.seen new ≡ d.seen old
   pub time : Elapses (d.moment old) (d.moment new) (d.left_since old) (d.left_since new)
   pub each : (image : Image) → d.left_since new (d.moment old) image → (before : Image) × d.may_leave old before × ((m : ℕ) → image (Log m) ≡ before (Log m))
 
 -- a crash leaves the logs 1 to n as reads give them
-abbrev pub AreKept : {D : Type 0} → Device D → D → ℕ → Type 0
+abbrev pub AreKept : {D : Type 0} → Ghosts D → D → ℕ → Type 0
 AreKept d journal n = (m : ℕ) → 1 ≤ m → m ≤ n → Keeps (Log m) (d.seen journal (Log m)) (d.may_leave journal)
 
 -- why the next log wasn't taken in, where P says that its records can't go on
@@ -88,7 +88,7 @@ AddCause profile number header P (opens.Limit kind n) = (kind ≡ kinds.Openings
 AddCause profile number header P opens.Memory = Unit {0}
 
 -- what was read of the logs, once they were synced: a crash leaves them so
-pub record Quiet {D : Type 0} (d : Device D) (journal : D) (honest : Bool) (logs : List Held) (batches : Batches) : Type 0 where
+pub record Quiet {D : Type 0} (d : Ghosts D) (journal : D) (honest : Bool) (logs : List Held) (batches : Batches) : Type 0 where
   pub reads : Reads (d.seen journal) logs batches
   pub none_above : IsTrue honest → (m : ℕ) → suc (length logs) < m → d.seen journal (Log m) ≡ None
   pub only : IsTrue honest → (image : Image) → d.may_leave journal image → (m : ℕ) → 0 < m → image (Log m) ≡ d.seen journal (Log m)

@@ -10,7 +10,7 @@ use Rattle.record_log.specs.Groups.{records_bytes}
 use Rattle.record_log.specs.State.{log_file, log_tail}
 use Rattle.record_log.specs.Ready.{IsReady}
 use Rattle.flsm_core.specs.declared.state.State.{State}
-use Rattle.flsm_core.specs.Device.{Device}
+use Rattle.disk_model.specs.declared.journal.Journal.{Ghosts}
 use Rattle.flsm_core.specs.Logs.{Held, HoldsLogs, SpellsAll, IsBatchIn, Stands, record_of}
 use Rattle.flsm_core.specs.Place.{Place, all_of}
 
@@ -31,7 +31,7 @@ pub record Waits (log : LogFile) (session : ℕ) (p : Place) : Type 0 where
   pub each : AllByRecursion (IsBatchIn session) p.waiting
 
 -- The journal has the logs of the settled batches, the last of them the state's own.
-pub record Rests {D : Type 0} (d : Device D) (journal : D) (log : LogFile) (session : ℕ) (p : Place) : Type 0 where
+pub record Rests {D : Type 0} (d : Ghosts D) (journal : D) (log : LogFile) (session : ℕ) (p : Place) : Type 0 where
   pub logs : List Held
   pub current : Held
   pub holds : IsTrue p.honest → HoldsLogs 1 (logs ++ current ∷ []) (d.seen journal)
@@ -44,7 +44,7 @@ pub record Rests {D : Type 0} (d : Device D) (journal : D) (log : LogFile) (sess
   pub only : IsTrue p.honest → (image : Image) → d.may_leave journal image → (m : ℕ) → 0 < m → image (Log m) ≡ d.seen journal (Log m)
 
 -- the state stands at this place
-pub record IsAt {D : Type 0} (d : Device D) (state : State D) (p : Place) : Type 0 where
+pub record IsAt {D : Type 0} (d : Ghosts D) (state : State D) (p : Place) : Type 0 where
   pub began : p.start ≤ d.moment state.journal
   pub grown : IsFront p.base p.settled
   pub ordered : are_in_order (all_of p) ≡ true

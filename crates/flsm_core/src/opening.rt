@@ -3,7 +3,6 @@ ghost use Rattle.peb_base.specs.Batches.{Batches, last_number};
 ghost use Rattle.disk_model.specs.Images.{Image, Follows, In, Stays, Elapses, Keeps, HasCause, Rose};
 ghost use Rattle.disk_model.specs.declared.journal_file.JournalFile.TheVariants.{Log};
 ghost use Rattle.record_log.specs.Log.{IsUnfinished};
-ghost use Rattle.flsm_core.specs.Device.{device};
 ghost use Rattle.flsm_core.specs.Logs.{Held, HoldsLogs, BeginsLogs, Stands, greatest_session};
 ghost use Rattle.flsm_core.specs.Opening.{fault_of, IsFound, HasWatched, AreKept, OpenCause};
 ghost use Rattle.flsm_core.specs.Place.{Place, all_of, opened};
@@ -40,7 +39,7 @@ fn next_log<J: Journal>(
     ensures done { IfOk result (λ step. step.1 ≡ false → (step.0 ≡ found) × (IsTrue J.tells → IsUnfinished (J.seen journal.old (Log (found.logs + 1))))) }
     ensures cause { IfErr result (λ fault. (logs : List Held) (batches : Batches) → IsFound profile found logs batches → (IsTrue J.tells → BeginsLogs 1 logs (J.seen journal.old))
         → OpenCause (Rose (J.faults journal.old) (J.faults journal.new)) J.tells (J.seen journal.old) profile fault) }
-    ensures watched { HasWatched (device J.tells J.seen J.may_leave J.moment J.left_since) journal.old journal.new }
+    ensures watched { HasWatched J.Journal journal.old journal.new }
     ensures kept { OnOk result (Keeps (Log (found.logs + 1)) (J.seen journal.old (Log (found.logs + 1))) (J.may_leave journal.new)) }
     ensures later { J.faults journal.old ≤ J.faults journal.new }
 {
@@ -65,9 +64,9 @@ fn read_logs<J: Journal>(
     profile: Profile,
 ) -> Result<Found, OpenFault>
     ensures found { IfOk result (λ found. (logs : List Held) × (batches : Batches) × IsFound profile found logs batches × (IsTrue J.tells → HoldsLogs 1 logs (J.seen journal.old))) }
-    ensures kept { IfOk result (λ found. AreKept (device J.tells J.seen J.may_leave J.moment J.left_since) journal.new (found.logs + 1)) }
+    ensures kept { IfOk result (λ found. AreKept J.Journal journal.new (found.logs + 1)) }
     ensures cause { IfErr result (OpenCause (Rose (J.faults journal.old) (J.faults journal.new)) J.tells (J.seen journal.old) profile) }
-    ensures watched { HasWatched (device J.tells J.seen J.may_leave J.moment J.left_since) journal.old journal.new }
+    ensures watched { HasWatched J.Journal journal.old journal.new }
     ensures later { J.faults journal.old ≤ J.faults journal.new }
 {
     let mut found = Found::new(alloc);
@@ -97,15 +96,15 @@ impl<J: Journal> State<J> {
         found: Found,
     ) -> Result<State<J>, (OpenFault, J)>
         ensures stands { IfOk result (λ state. (start : ℕ) (honest : Bool) (logs : List Held) (batches : Batches) → start ≤ J.moment journal → IsFound profile found logs batches
-            → (IsTrue J.tells → Quiet (device J.tells J.seen J.may_leave J.moment J.left_since) journal honest logs batches)
+            → (IsTrue J.tells → Quiet J.Journal journal honest logs batches)
             → (IsTrue J.tells → IsTrue honest → (image : Image) → J.left_since journal start image → Stands batches image)
-            → IsAt (device J.tells J.seen J.may_leave J.moment J.left_since) state (opened start honest batches)) }
+            → IsAt J.Journal state (opened start honest batches)) }
         ensures session { IfOk result (λ state. state_session state ≡ found.greatest + 1) }
         ensures later { IfOk result (λ state. J.faults journal ≤ J.faults (state_journal state)) }
         ensures cause { IfErr result (λ e. OpenCause (Rose (J.faults journal) (J.faults e.1)) J.tells (J.seen journal) profile e.0) }
         ensures later_err { IfErr result (λ e. J.faults journal ≤ J.faults e.1) }
         ensures images { IfErr result (λ e. IsTrue J.tells → (logs : List Held) (batches : Batches) → IsFound profile found logs batches
-            → Quiet (device J.tells J.seen J.may_leave J.moment J.left_since) journal true logs batches
+            → Quiet J.Journal journal true logs batches
             → (image : Image) → J.may_leave e.1 image → Stands batches image) }
     {
         let session = found.greatest + 1;
@@ -134,8 +133,8 @@ impl<J: Journal> State<J> {
     /// `Limit` only where no session is left. A refusal hands the journal back, and every crash leaves the batches that were there.
     pub fn open(alloc: Global, journal: J, profile: Profile) -> Result<State<J>, (OpenFault, J)>
         ensures stands { IfOk result (λ state. IsTrue J.tells → (honest : Bool) (base : Batches) → OpensOn honest base (J.seen journal) (J.may_leave journal)
-            → IsAt (device J.tells J.seen J.may_leave J.moment J.left_since) state (opened (J.moment journal) honest base)) }
-        ensures some { IfOk result (λ state. (base : Batches) × IsAt (device J.tells J.seen J.may_leave J.moment J.left_since) state (opened (J.moment journal) false base)) }
+            → IsAt J.Journal state (opened (J.moment journal) honest base)) }
+        ensures some { IfOk result (λ state. (base : Batches) × IsAt J.Journal state (opened (J.moment journal) false base)) }
         ensures session { IfOk result (λ state. IsTrue J.tells → (logs : List Held) × HoldsLogs 1 logs (J.seen journal) × (state_session state ≡ suc (greatest_session logs))) }
         ensures fresh { IfOk result (λ state. IsTrue J.tells → (base : Batches) → Stands base (J.seen journal) → last_number base < state_session state * 2 ^ 40) }
         ensures later { IfOk result (λ state. J.faults journal ≤ J.faults (state_journal state)) }

@@ -81,14 +81,13 @@ fn apply_one(current: &mut CurrentMap, batch: Batch) -> Result<(), Memory>
 impl<J: Journal> State<J> {
     ghost use Rattle.std.specs.Prelude.{IsTrue};
     ghost use Rattle.disk_model.specs.Images.{Image};
-    ghost use Rattle.flsm_core.specs.Device.{device};
     ghost use Rattle.flsm_core.specs.Place.{Place, all_of};
     ghost use Rattle.flsm_core.specs.Standing.{IsAt, Leaves};
     ghost use Rattle.flsm_core.specs.State.{state_journal};
 
     /// Gives the journal up. What waits is lost.
     pub fn close(self) -> J
-        ensures images { IsTrue J.tells → (p : Place) → IsAt (device J.tells J.seen J.may_leave J.moment J.left_since) self p → IsTrue p.honest
+        ensures images { IsTrue J.tells → (p : Place) → IsAt J.Journal self p → IsTrue p.honest
             → (image : Image) → J.may_leave result image → Leaves p.settled (all_of p) image }
         ensures journal { result ≡ state_journal self }
     {
@@ -106,10 +105,9 @@ impl<J: Journal> State<J> {
 }
 
 impl<J: Journal> Store for State<J> {
-    ghost use Rattle.flsm_core.specs.Device.{device};
     ghost use Rattle.flsm_core.specs.Standing.{IsAt};
 
-    ghost stands = { λ s p. IsAt (device J.tells J.seen J.may_leave J.moment J.left_since) s p };
+    ghost stands = { λ s p. IsAt J.Journal s p };
 
     ghost session = { λ s. s.session };
 

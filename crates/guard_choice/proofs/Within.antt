@@ -14,11 +14,6 @@ use Rattle.guard_choice.proofs.Places.{AreAbove}
 
 -- ---- parts of ascending keys
 
-above-drop : (key : Bytes) (n : ℕ) (cs : List Chosen) → AreAbove key cs → AreAbove key (drop n cs)
-above-drop key zero cs above = above
-above-drop key (suc n) [] above = tt
-above-drop key (suc n) (c ∷ cs) above = above-drop key n cs above.1
-
 above-take : (key : Bytes) (n : ℕ) (cs : List Chosen) → AreAbove key cs → AreAbove key (take n cs)
 above-take key zero cs above = tt
 above-take key (suc n) [] above = tt

@@ -176,10 +176,6 @@ keep_same low high higher (e ∷ es) upto le =
     let two : nat_le e.number high ≡ true = grind (arith, nat_tests, upto.0) in
     rw (one, two, keep_same low high higher es upto.1 le) refl
 
--- the map after the last number is the whole map
-pub map_past : (bs : Batches) (n : ℕ) → last_number bs ≤ n → map_at bs n ≡ map_at bs (last_number bs)
-map_past bs n past = ap (λ es. apply_entries es []) (keep_same 0 (last_number bs) n (entries_of bs) (upto_batches (last_number bs) bs (omega arith)) past)
-
 -- batches of higher numbers don't change the map at a number
 pub map_before : (bs more : Batches) (n : ℕ) → ordered_above n more ≡ true → map_at (bs ++ more) n ≡ map_at bs n
 map_before bs more n above =

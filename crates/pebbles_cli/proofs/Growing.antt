@@ -89,9 +89,6 @@ grows_push session p op =
 
 -- ---- a batch that is there
 
-has_last : (bs : Batches) (b : ℕ × List Op) → Has (bs ++ b ∷ []) b
-has_last bs b = (bs, [], refl)
-
 has_later : (old new : Batches) (b : ℕ × List Op) → IsFront old new → Has old b → Has new b
 has_later old new b front has = (has.0, has.1 ++ front.0, front.1 ∙ ap (λ (x : Batches). x ++ front.0) has.2 ∙ append_assoc has.0 (b ∷ has.1) front.0)
 

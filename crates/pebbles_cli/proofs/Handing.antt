@@ -7,7 +7,7 @@ use Rattle.disk_model.specs.Told.{TellsTheSame}
 use Rattle.flsm_core.specs.declared.state.State.{State}
 use Rattle.flsm_core.specs.declared.open_fault.OpenFault.{OpenFault}
 use Rattle.flsm_core.specs.declared.open_fault.OpenFault.TheVariants as opens
-use Rattle.flsm_core.specs.Device.{Device}
+use Rattle.disk_model.specs.declared.journal.Journal.{Ghosts}
 use Rattle.flsm_core.specs.Place.{opened}
 use Rattle.flsm_core.specs.Logs.{Stands}
 use Rattle.flsm_core.specs.Standing.{IsAt}
@@ -35,7 +35,7 @@ pub opens_read : (honest : Bool) (base : Batches) (seen : Image) (may : Image �
 opens_read true base seen may left on = on seen left
 opens_read false base seen may left on = on
 
-pub moved : {D : Type 0} {d : Device D} {state : State D} (honest : Bool) (base : Batches) (a b : ℕ) → a ≡ b → IsAt d state (opened a honest base) → IsAt d state (opened b honest base)
+pub moved : {D : Type 0} {d : Ghosts D} {state : State D} (honest : Bool) (base : Batches) (a b : ℕ) → a ≡ b → IsAt d state (opened a honest base) → IsAt d state (opened b honest base)
 moved {D} {d} {state} honest base a b same at = subst (λ (t : ℕ). IsAt d state (opened t honest base)) same at
 
 pub rose_same : (a b c d : ℕ) → a ≡ b → d ≡ c → Rose a c → Rose b d

@@ -17,10 +17,6 @@ pub says_all : (text : Option (List ℕ)) (bytes : List ℕ) (commands : List Co
 says_all None bytes commands whole said = tt
 says_all (Some text) bytes commands whole said = subst (λ (t : List ℕ). script_of t ≡ Ok commands) whole said
 
-pub refused_line : (text : Option (List ℕ)) (bytes : List ℕ) (line : ℕ) (why : Why) → IsWhole text bytes → script_of bytes ≡ Err (line, why) → IsRefusedAt text line why
-refused_line None bytes line why whole said = tt
-refused_line (Some text) bytes line why whole said = subst (λ (t : List ℕ). script_of t ≡ Err (line, why)) whole said
-
 pub play_cause : (cause : Cause) (source journal sinks client : Type 0) (tells : Bool) (seen : Image) (text : Option (List ℕ)) → IsScript text → RunCause journal sinks client tells seen cause
     → PlayCause source journal sinks client tells seen text cause
 play_cause causes.Done source journal sinks client tells seen text script run = script

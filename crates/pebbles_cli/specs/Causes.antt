@@ -62,11 +62,6 @@ RunCause journal sinks client tells seen causes.Usage = ⊥
 RunCause journal sinks client tells seen (causes.Script i line why) = ⊥
 RunCause journal sinks client tells seen (causes.Source i) = ⊥
 
--- the same of a fault, where there is one
-abbrev pub FaultCause : Type 0 → Type 0 → Type 0 → Bool → Image → Option Cause → Type 0
-FaultCause journal sinks client tells seen None = Unit {0}
-FaultCause journal sinks client tells seen (Some cause) = RunCause journal sinks client tells seen cause
-
 -- what holds where a call ends so whose words name a run; the first holds where the count of faults of the scripts rose
 abbrev pub PlayCause : Type 0 → Type 0 → Type 0 → Type 0 → Bool → Image → Option (List ℕ) → Cause → Type 0
 PlayCause source journal sinks client tells seen text (causes.Source i) = (i ≡ 1) × source

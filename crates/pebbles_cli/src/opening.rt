@@ -2,7 +2,6 @@ ghost use Rattle.std.specs.Prelude.{◌≡◌, ◌≢◌, ◌⊎◌, ◌≤◌, 
 ghost use Rattle.disk_model.specs.Images.{Image, Rose};
 ghost use Rattle.disk_model.specs.Directories.{after_choice, after_opening};
 ghost use Rattle.peb_base.specs.Batches.{Batches, last_number};
-ghost use Rattle.flsm_core.specs.Device.{device};
 ghost use Rattle.flsm_core.specs.Place.{Place, opened, all_of};
 ghost use Rattle.flsm_core.specs.Logs.{Stands};
 ghost use Rattle.flsm_core.specs.Opening.{OpensOn};
@@ -40,8 +39,8 @@ pub fn open_store<D: Devices>(
     ensures opened { OnOk result (D.directories devices.new ≡ after_opening (after_choice dir.now (D.directories devices.old))) }
     ensures refused { OnErr result (OpensAtMost dir.now (D.directories devices.old) (D.directories devices.new)) }
     ensures stands { IfOk result (λ state. IsTrue D.J.tells → (honest : Bool) (base : Batches) → OpensOn honest base (D.seen devices.old) (D.may_leave devices.old)
-        → IsAt (device D.J.tells D.J.seen D.J.may_leave D.J.moment D.J.left_since) state (opened (D.moment devices.old) honest base)) }
-    ensures some { IfOk result (λ state. (base : Batches) × IsAt (device D.J.tells D.J.seen D.J.may_leave D.J.moment D.J.left_since) state (opened (D.moment devices.old) false base)) }
+        → IsAt D.J.Journal state (opened (D.moment devices.old) honest base)) }
+    ensures some { IfOk result (λ state. (base : Batches) × IsAt D.J.Journal state (opened (D.moment devices.old) false base)) }
     ensures next { IfOk result (λ state. IsTrue D.J.tells → (base : Batches) → Stands base (D.seen devices.old) → IsNext base (D.seen devices.old) (state_session state)) }
     ensures count { IfOk result (λ state. D.journal_faults devices.old ≤ D.J.faults (state_journal state)) }
     ensures left { IfErr result (λ _. IsTrue D.J.tells → (base : Batches) → OpensOn true base (D.seen devices.old) (D.may_leave devices.old)
@@ -70,7 +69,7 @@ pub fn open_store<D: Devices>(
 
 /// Hands the journal of a store back to the devices.
 pub fn close_store<D: Devices>(devices: &mut D, state: State<D::J>)
-    ensures left { IsTrue D.J.tells → (p : Place) → IsAt (device D.J.tells D.J.seen D.J.may_leave D.J.moment D.J.left_since) state p → IsTrue p.honest
+    ensures left { IsTrue D.J.tells → (p : Place) → IsAt D.J.Journal state p → IsTrue p.honest
         → (image : Image) → D.may_leave devices.new image → Leaves p.settled (all_of p) image }
     ensures directories { D.directories devices.new ≡ D.directories devices.old }
     ensures count { D.journal_faults devices.new ≡ D.J.faults (state_journal state) }

@@ -3,7 +3,6 @@ ghost use Rattle.disk_model.specs.Images.{Image, Rose};
 ghost use Rattle.disk_model.specs.Bytes.{IsFresh};
 ghost use Rattle.disk_model.specs.SinkNames.{after_return};
 ghost use Rattle.peb_base.specs.Batches.{Batches};
-ghost use Rattle.flsm_core.specs.Device.{device};
 ghost use Rattle.flsm_core.specs.Place.{Place};
 ghost use Rattle.flsm_core.specs.Opening.{OpensOn};
 ghost use Rattle.flsm_core.specs.Standing.{IsAt};
@@ -53,10 +52,10 @@ fn run_opened<D: Devices, K: Sinks>(
     commands: Vec<Command>,
     line: &mut ReplyBuf,
 ) -> Cause
-    requires stands { (p : Place) × IsAt (device D.J.tells D.J.seen D.J.may_leave D.J.moment D.J.left_since) opened p }
+    requires stands { (p : Place) × IsAt D.J.Journal opened p }
     requires fresh { IsFresh (K.One.taken replies) }
     requires unused { K.One.faults replies ≡ 0 }
-    ensures ran { (p : Place) → IsAt (device D.J.tells D.J.seen D.J.may_leave D.J.moment D.J.left_since) opened p → p.stopped ≡ false
+    ensures ran { (p : Place) → IsAt D.J.Journal opened p → p.stopped ≡ false
         → Ran D.J.tells (state_session opened) p commands.items (K.took sinks.new 1) (K.reported sinks.old) (K.reported sinks.new) (D.may_leave devices.new) result }
     ensures directories { D.directories devices.new ≡ D.directories devices.old }
     ensures names { K.names sinks.new ≡ after_return 1 (K.One.label replies) (K.names sinks.old) }

@@ -6,8 +6,7 @@ ghost use Rattle.script.specs.Cause.{status_of};
 ghost use Rattle.script.specs.declared.cause.Cause.TheVariants as causes;
 ghost use Rattle.pebbles_cli.specs.Words.{run_words};
 ghost use Rattle.pebbles_cli.specs.Causes.{PlayCause, IsBeforeOpening};
-ghost use Rattle.pebbles_cli.specs.Names.{Uses};
-ghost use Rattle.pebbles_cli.specs.Top.{Plays};
+ghost use Rattle.pebbles_cli.specs.Outside.{PlaysOn, outside};
 
 use crate::ended::Ended;
 use crate::read_fault::ReadFault;
@@ -31,10 +30,10 @@ fn play<D: Devices, S: Scripts, K: Sinks>(
     ensures untouched { IsBeforeOpening result → devices.new ≡ devices.old }
     ensures silent { IsBeforeOpening result → sinks.new ≡ sinks.old }
     ensures ran { IsTrue D.J.tells → (honest : Bool) (base : Batches) → OpensOn honest base (D.seen devices.old) (D.may_leave devices.old)
-        → Plays (Uses dir.now file.now (D.directories devices.old) (D.directories devices.new) (K.names sinks.old) (K.names sinks.new)) true D.J.tells honest base (D.seen devices.old) (D.moment devices.old) (S.text scripts.old file.now) (K.took sinks.old 1) (K.took sinks.new 1)
-        (K.reported sinks.old) (K.reported sinks.new) (D.may_leave devices.new) result }
-    ensures somehow { (base : Batches) × Plays (Uses dir.now file.now (D.directories devices.old) (D.directories devices.new) (K.names sinks.old) (K.names sinks.new)) false D.J.tells false base (D.seen devices.old) (D.moment devices.old) (S.text scripts.old file.now)
-        (K.took sinks.old 1) (K.took sinks.new 1) (K.reported sinks.old) (K.reported sinks.new) (D.may_leave devices.new) result }
+        → PlaysOn (dir.now, file.now) true D.J.tells honest base (S.text scripts.old file.now)
+            (outside D.Devices K.Sinks devices.old sinks.old) (outside D.Devices K.Sinks devices.new sinks.new) result }
+    ensures somehow { (base : Batches) × PlaysOn (dir.now, file.now) false D.J.tells false base (S.text scripts.old file.now)
+        (outside D.Devices K.Sinks devices.old sinks.old) (outside D.Devices K.Sinks devices.new sinks.new) result }
     ensures cause { PlayCause (Rose (S.faults scripts.old) (S.faults scripts.new))
         (Rose (D.faults devices.old) (D.faults devices.new) ⊎ Rose (D.journal_faults devices.old) (D.journal_faults devices.new))
         (Rose (K.faults sinks.old) (K.faults sinks.new)) (Rose 0 (K.client_faults sinks.new 1)) D.J.tells (D.seen devices.old) (S.text scripts.old file.now) result }
@@ -72,10 +71,10 @@ pub fn top_plain<D: Devices, S: Scripts, K: Sinks>(
     ensures silent { IsBeforeOpening result.cause → sinks.new ≡ sinks.old }
     ensures unread { (result.cause ≡ causes.Usage) → scripts.new ≡ scripts.old }
     ensures ran { IfSome (run_words (map string_bytes words.now)) (λ names. IsTrue D.J.tells → (honest : Bool) (base : Batches) → OpensOn honest base (D.seen devices) (D.may_leave devices)
-        → Plays (Uses names.0 names.1 (D.directories devices) (D.directories result.devices) (K.names sinks.old) (K.names sinks.new)) true D.J.tells honest base (D.seen devices) (D.moment devices) (S.text scripts.old names.1) (K.took sinks.old 1) (K.took sinks.new 1)
-        (K.reported sinks.old) (K.reported sinks.new) (D.may_leave result.devices) result.cause) }
-    ensures somehow { IfSome (run_words (map string_bytes words.now)) (λ names. (base : Batches) × Plays (Uses names.0 names.1 (D.directories devices) (D.directories result.devices) (K.names sinks.old) (K.names sinks.new)) false D.J.tells false base (D.seen devices) (D.moment devices) (S.text scripts.old names.1)
-        (K.took sinks.old 1) (K.took sinks.new 1) (K.reported sinks.old) (K.reported sinks.new) (D.may_leave result.devices) result.cause) }
+        → PlaysOn names true D.J.tells honest base (S.text scripts.old names.1)
+            (outside D.Devices K.Sinks devices sinks.old) (outside D.Devices K.Sinks result.devices sinks.new) result.cause) }
+    ensures somehow { IfSome (run_words (map string_bytes words.now)) (λ names. (base : Batches) × PlaysOn names false D.J.tells false base (S.text scripts.old names.1)
+        (outside D.Devices K.Sinks devices sinks.old) (outside D.Devices K.Sinks result.devices sinks.new) result.cause) }
     ensures cause { IfSome (run_words (map string_bytes words.now)) (λ names. PlayCause (Rose (S.faults scripts.old) (S.faults scripts.new))
         (Rose (D.faults devices) (D.faults result.devices) ⊎ Rose (D.journal_faults devices) (D.journal_faults result.devices))
         (Rose (K.faults sinks.old) (K.faults sinks.new)) (Rose 0 (K.client_faults sinks.new 1)) D.J.tells (D.seen devices) (S.text scripts.old names.1) result.cause) }

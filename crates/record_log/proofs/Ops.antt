@@ -35,19 +35,9 @@ one_op a b x y is_a is_b same =
     let change = one_change a.change b.change x y is_a.1 is_b.1 key.0 key.2 in
     ((λ i. record { key = key.1 i; change = change.0 i }), change.1)
 
--- no key, no operation
-pub no_op_key : (bytes : List ℕ) (op : Op) (rest : List ℕ) → ((kind : ℕ) (key rest : List ℕ) → IsKey key → bytes ≢ kind ∷ (counted_bytes 2 key ++ rest)) → IsOp op → bytes ≢ op_bytes op ++ rest
-no_op_key bytes op rest none is = λ same. none (kind_of op.change) op.key (value_bytes op.change ++ rest) is.0 (same ∙ op_apart op rest)
-
 kinds : (change : Change) → kind_of change ≤ 1
 kinds (Put value) = omega arith
 kinds Delete = omega arith
-
--- no other kind
-pub no_op_kind : (bytes : List ℕ) (kind : ℕ) (key behind : List ℕ) (op : Op) (rest : List ℕ) → bytes ≡ kind ∷ (counted_bytes 2 key ++ behind) → IsKey key → 1 < kind → IsOp op → bytes ≢ op_bytes op ++ rest
-no_op_kind bytes kind key behind op rest is is_key other is_op = λ same.
-    let parts = the_key kind key behind op rest is_key is_op.0 (sym is ∙ same) in
-    omega (arith, parts.0, kinds op.change)
 
 no_value : (change : Change) (behind rest : List ℕ) → 1 ≡ kind_of change → IsChange change → behind ≡ value_bytes change ++ rest → ((value rest : List ℕ) → length value ≤ 32768 → behind ≢ counted_bytes 4 value ++ rest) → ⊥
 no_value (Put value) behind rest kind is same none = none value rest is same
@@ -91,14 +81,6 @@ none_left (first ∷ ops) left rest are counts is some none = none first (ops_by
 -- what is left is no operation
 pub leaves_none : (left : ℕ) (rest : List ℕ) → Leaves left rest → 0 < left → ((op : Op) (more : List ℕ) → IsOp op → rest ≢ op_bytes op ++ more) → ⊥
 leaves_none left rest leaves some none = none_left leaves.ops left rest leaves.each leaves.counted leaves.spelled some none
-
-end_left : (ops : List Op) (rest : List ℕ) → length ops ≡ 0 → rest ≡ ops_bytes ops → length rest ≡ 0
-end_left [] rest counts is = ap length is
-end_left (op ∷ ops) rest counts is = absurd (omega (arith, counts))
-
--- none is left, and so no byte
-pub leaves_end : (left : ℕ) (rest : List ℕ) → Leaves left rest → left ≡ 0 → length rest ≡ 0
-leaves_end left rest leaves none = end_left leaves.ops rest (leaves.counted ∙ none) leaves.spelled
 
 pub so_far_op : (ops : List Op) (op : Op) (rest behind bytes : List ℕ) → ops_bytes ops ++ rest ≡ bytes → rest ≡ op_bytes op ++ behind → ops_bytes (ops ++ op ∷ []) ++ behind ≡ bytes
 so_far_op ops op rest behind bytes so_far found =

@@ -87,16 +87,6 @@ next_none page index blocks es place on lt end past =
 previous_of : (n m : ℕ) → n ≡ suc m → previous_place (Some n) ≡ Some m
 previous_of n m is = ap (λ k. previous_place (Some k)) is
 
-pub previous_within : (page : Reading) (index : ℕ) (blocks : List (List Entry)) (es : List Entry) (place : Option ℕ) → OnPage page index blocks es place → 0 < length page.entries → 0 < page.place
-    → Some (entries_before index blocks + (page.place - 1)) ≡ previous_place place
-previous_within page index blocks es place on some later =
-    sym (ap previous_place (shown page index blocks es place on some) ∙ previous_of (entries_before index blocks + page.place) (entries_before index blocks + (page.place - 1)) (omega (arith, later)))
-
-pub previous_none : (page : Reading) (index : ℕ) (blocks : List (List Entry)) (es : List Entry) (place : Option ℕ) → OnPage page index blocks es place → 0 < length page.entries → page.place ≡ 0 → index ≡ 0 → None ≡ previous_place place
-previous_none page index blocks es place on some front first =
-    let start : entries_before index blocks + page.place ≡ 0 = (λ i. entries_before (first i) blocks + front i) in
-    sym (ap previous_place (shown page index blocks es place on some) ∙ ap (λ n. previous_place (Some n)) start)
-
 pub previous_block : (page : Reading) (index : ℕ) (blocks : List (List Entry)) (es : List Entry) (place : Option ℕ) → OnPage page index blocks es place → 0 < length page.entries → page.place ≡ 0 → 0 < index
     → where_block (index - 1) blocks (entries_before (suc (index - 1)) blocks - 1) ≡ previous_place place
 previous_block page index blocks es place on some front later =

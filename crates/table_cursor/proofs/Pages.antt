@@ -3,7 +3,7 @@ use Rattle.std.proofs.Common.{◌≡◌, ℕ, ◌≤◌, List, [], length, take,
 use Rattle.std.specs.Prelude.{slice_get}
 use Rattle.peb_base.specs.Keys.{Bytes}
 use Rattle.peb_base.specs.declared.entry.Entry.{Entry}
-use Rattle.block_form.specs.Form.{IsBlock}
+use Rattle.block_form.specs.Form.{IsBlock, entries_bytes}
 use Rattle.block_form.specs.Walks.{entries_from, entries_in}
 use Rattle.table_cursor.specs.Page.{IsPage}
 
@@ -11,19 +11,21 @@ pub none_in : (bytes : List ℕ) → entries_in 0 bytes ≡ []
 unfolding entries_from
 none_in bytes = refl
 
-pub empty_page : (len place : ℕ) (buffer : List ℕ) (key : Bytes) → len ≤ 40960 → IsPage len 0 place buffer key (entries_in 0 (take len buffer))
-empty_page len place buffer key fits =
+pub empty_page : (len place here : ℕ) (buffer : List ℕ) (key : Bytes) → len ≤ 40960 → IsPage len 0 place here buffer key (entries_in 0 (take len buffer))
+empty_page len place here buffer key fits =
     record {
       fits = fits;
       count_is = sym (ap length (none_in (take len buffer)));
       block = λ some. absurd (omega (arith, some));
       inside = λ some. absurd (omega (arith, some));
       key_is = λ some. absurd (omega (arith, some));
+      here_is = λ some. absurd (omega (arith, some));
     }
 
 -- a page on which a block was read, at its first entry
 pub full_page : (len count : ℕ) (buffer : List ℕ) (key : Bytes) (es : List Entry) → len ≤ 40960 → IsBlock es (take len buffer) → length es ≡ count → entries_in count (take len buffer) ≡ es
-    → ((e : Entry) → slice_get es 0 ≡ Some e → key ≡ e.key) → IsPage len count 0 buffer key (entries_in count (take len buffer))
+    → ((e : Entry) → slice_get es 0 ≡ Some e → key ≡ e.key) → IsPage len count 0 0 buffer key (entries_in count (take len buffer))
+unfolding entries_bytes
 full_page len count buffer key es fits form counted same first =
-    subst (λ (l : List Entry). IsPage len count 0 buffer key l) (sym same)
-    (record { fits = fits; count_is = sym counted; block = λ some. form; inside = λ some. some; key_is = λ some. first })
+    subst (λ (l : List Entry). IsPage len count 0 0 buffer key l) (sym same)
+    (record { fits = fits; count_is = sym counted; block = λ some. form; inside = λ some. some; key_is = λ some. first; here_is = λ some. refl })

@@ -25,12 +25,12 @@ entry_shown page index blocks es place e on there =
     sym (ap (entry_at es) (shown page index blocks es place on some) ∙ at)
 
 -- what a page goes to, a cursor does
-pub stands_on : {F : Type 0} {g : Ghosts F} (tells : Bool) (number : F → ℕ) (bytes : F → List ℕ) (table now : Table F g) (page : Reading) (index : ℕ) (es : List Entry) (holds : HoldsIn tells number bytes table es) (place : Option ℕ) (r : Result (Unit {0}) ReadFault)
-    → IsTrue tells → now ≡ table → Goes (OnPage page index (blocks_of holds.full es) es) place r → Goes (StandsAt tells number bytes now page index es) place r
-stands_on tells number bytes table now page index es holds place r told same goes =
-    subst (λ t. Goes (StandsAt tells number bytes t page index es) place r) (sym same) (by r goes)
+pub stands_on : {F : Type 0} {g : Ghosts F} (table now : Table F g) (page : Reading) (index : ℕ) (es : List Entry) (holds : HoldsIn table es) (place : Option ℕ) (r : Result (Unit {0}) ReadFault)
+    → IsTrue g.tells → now ≡ table → Goes (OnPage page index (blocks_of holds.full es) es) place r → Goes (StandsAt now page index es) place r
+stands_on table now page index es holds place r told same goes =
+    subst (λ t. Goes (StandsAt t page index es) place r) (sym same) (by r goes)
   where
-    by : (r : Result (Unit {0}) ReadFault) → Goes (OnPage page index (blocks_of holds.full es) es) place r → Goes (StandsAt tells number bytes table page index es) place r
+    by : (r : Result (Unit {0}) ReadFault) → Goes (OnPage page index (blocks_of holds.full es) es) place r → Goes (StandsAt table page index es) place r
     by (Ok x) on = record { told = told; holds = holds; on = on }
     by (Err Fault) on = record { told = told; holds = holds; on = on }
     by (Err (Damaged n at)) never = never

@@ -48,14 +48,14 @@ pub record Shows (tells : Bool) (file : List ℕ) (row : TableRow) (items : List
   pub read : IsTrue tells → page.bytes ≡ take (length page.bytes) (drop page.at file)
 
 -- the same of a table whose handle has these bytes
-abbrev pub ShowsOf : {F : Type 0} {g : Ghosts F} → Bool → (F → List ℕ) → Table F g → ℕ → Reading → Type 0
-ShowsOf tells bytes table index page = Shows tells (bytes table.file) table.row table.items.items index page
+abbrev pub ShowsOf : {F : Type 0} {g : Ghosts F} → Table F g → ℕ → Reading → Type 0
+ShowsOf {F} {g} table index page = Shows g.tells (g.bytes table.file) table.row table.items.items index page
 
 -- the entry is one of a block that agrees with the index and the row of a table whose handle has these bytes, where the block's bytes stand if they are told
-pub record IsOfBlock {F : Type 0} {g : Ghosts F} (tells : Bool) (bytes : F → List ℕ) (table : Table F g) (entry : Entry) : Type 0 where
+pub record IsOfBlock {F : Type 0} {g : Ghosts F} (table : Table F g) (entry : Entry) : Type 0 where
   pub index : ℕ
   pub page : Reading
-  pub shows : ShowsOf tells bytes table index page
+  pub shows : ShowsOf table index page
   pub form : IsBlock page.entries page.bytes
   pub there : slice_get page.entries page.place ≡ Some entry
 
@@ -69,8 +69,8 @@ pub record IsDamage (tells : Bool) (file : List ℕ) (row : TableRow) (items : L
   pub none : IsTrue tells → (es : List Entry) → Agrees row items index at es → IsBlock es (take item.len (drop at file)) → ⊥
 
 -- the same of a table whose handle has these bytes
-abbrev pub IsDamageOf : {F : Type 0} {g : Ghosts F} → Bool → (F → List ℕ) → Table F g → ℕ → ℕ → Type 0
-IsDamageOf tells bytes table number at = IsDamage tells (bytes table.file) table.row table.items.items number at
+abbrev pub IsDamageOf : {F : Type 0} {g : Ghosts F} → Table F g → ℕ → ℕ → Type 0
+IsDamageOf {F} {g} table number at = IsDamage g.tells (g.bytes table.file) table.row table.items.items number at
 
 -- where damage is told
 abbrev pub IfDamage : {T : Type 0} → Result T ReadFault → (ℕ → ℕ → Type 0) → Type 0

@@ -3,6 +3,7 @@ use Rattle.std.specs.Prelude.{◌≡◌, ℕ, ◌<◌, ◌≤◌, List, length, 
 use Rattle.peb_base.specs.Keys.{Bytes}
 use Rattle.peb_base.specs.declared.entry.Entry.{Entry}
 use Rattle.block_form.specs.Form.{IsBlock}
+use Rattle.block_form.specs.Spots.{offset_of}
 use Rattle.block_form.specs.Walks.{entries_in}
 
 -- where a block begins in its file, its bytes, its entries, and a place among them; no entries where no block is read
@@ -17,10 +18,11 @@ abbrev pub reading : ℕ → ℕ → ℕ → ℕ → List ℕ → Reading
 reading at len count place buffer =
     record { at = at; bytes = take len buffer; entries = entries_in count (take len buffer); place = place }
 
--- what is kept of a page: where it has entries they are those of its block, its place is one of theirs, and the key there is kept
-pub record IsPage (len count place : ℕ) (buffer : List ℕ) (key : Bytes) (entries : List Entry) : Type 0 where
+-- what is kept of a page: where it has entries they are those of its block, its place is one of theirs, and the key there and where the entry begins are kept
+pub record IsPage (len count place here : ℕ) (buffer : List ℕ) (key : Bytes) (entries : List Entry) : Type 0 where
   pub fits : len ≤ 40960
   pub count_is : count ≡ length entries
   pub block : 0 < count → IsBlock entries (take len buffer)
   pub inside : 0 < count → place < count
   pub key_is : 0 < count → (e : Entry) → slice_get entries place ≡ Some e → key ≡ e.key
+  pub here_is : 0 < count → here ≡ offset_of place entries

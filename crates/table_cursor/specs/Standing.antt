@@ -34,11 +34,11 @@ pub record OnPage (page : Reading) (index : ℕ) (blocks : List (List Entry)) (e
   pub there : place ≡ place_among page index blocks
 
 -- a table whose handle has this number and these bytes holds these entries
-abbrev pub HoldsIn : {F : Type 0} {g : Ghosts F} → Bool → (F → ℕ) → (F → List ℕ) → Table F g → List Entry → Type 0
-HoldsIn tells number bytes table es = Holds tells (number table.file) (bytes table.file) table.row table.items.items table.filter es
+abbrev pub HoldsIn : {F : Type 0} {g : Ghosts F} → Table F g → List Entry → Type 0
+HoldsIn {F} {g} table es = Holds g.tells (g.number table.file) (g.bytes table.file) table.row table.items.items table.filter es
 
 -- the table holds these entries, which its device tells, and the page shows the one at this place, or nothing
-pub record StandsAt {F : Type 0} {g : Ghosts F} (tells : Bool) (number : F → ℕ) (bytes : F → List ℕ) (table : Table F g) (page : Reading) (index : ℕ) (es : List Entry) (place : Option ℕ) : Type 0 where
-  pub told : IsTrue tells
-  pub holds : HoldsIn tells number bytes table es
+pub record StandsAt {F : Type 0} {g : Ghosts F} (table : Table F g) (page : Reading) (index : ℕ) (es : List Entry) (place : Option ℕ) : Type 0 where
+  pub told : IsTrue g.tells
+  pub holds : HoldsIn table es
   pub on : OnPage page index (blocks_of holds.full es) es place

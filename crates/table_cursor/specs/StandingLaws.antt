@@ -39,6 +39,6 @@ on_page_among page index blocks es place on sorted inside = by page.entries refl
         subst (λ p. StandsAmong es p (nat_eq (length (e ∷ l)) 0)) (sym (shown page index blocks es place on some))
         (record { sorted = sorted; inside = omega (arith, spot.within, inside some, ap length on.whole); none = grind (arith, nat_tests) })
 
-pub stands_among : {F : Type 0} {g : Ghosts F} {tells : Bool} {number : F → ℕ} {bytes : F → List ℕ} {table : Table F g} (page : Reading) (index : ℕ) (es : List Entry) (place : Option ℕ)
-    → StandsAt tells number bytes table page index es place → (0 < length page.entries → page.place < length page.entries) → StandsAmong es place (nat_eq (length page.entries) 0)
+pub stands_among : {F : Type 0} {g : Ghosts F} {table : Table F g} (page : Reading) (index : ℕ) (es : List Entry) (place : Option ℕ)
+    → StandsAt table page index es place → (0 < length page.entries → page.place < length page.entries) → StandsAmong es place (nat_eq (length page.entries) 0)
 stands_among page index es place stands inside = on_page_among page index (blocks_of stands.holds.full es) es place stands.on stands.holds.table.sorted inside

@@ -25,6 +25,8 @@ pub struct Page {
     len: usize,
     count: usize,
     place: usize,
+    /// Where the entry at the place begins, counted from the first entry.
+    here: usize,
     key: KeyBuf,
 }
 
@@ -37,7 +39,7 @@ impl Model for Page {
 
     ghost view = { λ page. reading page.at page.len page.count page.place page.loan };
 
-    ghost invariant = { λ page. IsPage page.len page.count page.place page.loan page.key (entries_in page.count (take page.len page.loan)) };
+    ghost invariant = { λ page. IsPage page.len page.count page.place page.here page.loan page.key (entries_in page.count (take page.len page.loan)) };
 }
 
 /// The block that the first bytes of a loan are.
@@ -65,6 +67,7 @@ impl Page {
             len: 0,
             count: 0,
             place: 0,
+            here: 0,
             key: KeyBuf::new(),
         }
     }
@@ -77,6 +80,7 @@ impl Page {
             len: _,
             count: _,
             place: _,
+            here: _,
             key: _,
         } = self;
         loan
@@ -143,6 +147,7 @@ impl Page {
         self.len = len as usize;
         self.count = count;
         self.place = 0;
+        self.here = 0;
         Ok(())
     }
 
@@ -158,7 +163,31 @@ impl Page {
         requires { place < length self.old.entries }
         ensures { self.new ≡ record self.old { place = place } }
     {
-        block_in(&self.loan, self.len, self.count).key_at(place, &mut self.key);
+        if place == self.place + 1 {
+            self.step();
+            return;
+        }
+        self.jump(place);
+    }
+
+    /// Goes one entry on.
+    fn step(&mut self)
+        requires { self.old.place + 1 < length self.old.entries }
+        ensures { self.new ≡ record self.old { place = self.old.place + 1 } }
+    {
+        let block = block_in(&self.loan, self.len, self.count);
+        let here = block.offset_behind(self.place, self.here);
+        block.key_behind(self.place, here, &mut self.key);
+        self.here = here;
+        self.place += 1;
+    }
+
+    /// Goes to another place by a walk from the first entry.
+    fn jump(&mut self, place: usize)
+        requires { place < length self.old.entries }
+        ensures { self.new ≡ record self.old { place = place } }
+    {
+        self.here = block_in(&self.loan, self.len, self.count).go(place, &mut self.key);
         self.place = place;
     }
 
@@ -177,6 +206,6 @@ impl Page {
         ensures form { IsBlock self.now.entries self.now.bytes }
     {
         let block = block_in(&self.loan, self.len, self.count);
-        block.entry_under(self.place, self.key.bytes())
+        block.entry_here(self.place, self.here, self.key.bytes())
     }
 }

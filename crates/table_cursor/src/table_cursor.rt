@@ -30,7 +30,7 @@ pub struct TableCursor<P: Port> {
     /// The index of the block on the page.
     index: usize,
     refused: Option<ReadFault>,
-    ghost shows: { 0 < length page.entries → ShowsOf P.File.tells P.File.bytes (arc_value table) index page },
+    ghost shows: { 0 < length page.entries → ShowsOf (arc_value table) index page },
 }
 
 impl<P: Port> TableCursor<P> {
@@ -38,8 +38,8 @@ impl<P: Port> TableCursor<P> {
 
     /// A cursor over the entries of a table, at no place. It makes no read yet, and no call of it takes memory.
     pub fn open(table: Arc<Table<P::File>, Global>, port: P, loan: Loan) -> TableCursor<P>
-        ensures stands { (es : List Entry) → IsTrue P.File.tells → HoldsIn P.File.tells P.File.number P.File.bytes (arc_value table) es
-            → StandsAt P.File.tells P.File.number P.File.bytes (arc_value result.table) result.page result.index es None }
+        ensures stands { (es : List Entry) → IsTrue P.File.tells → HoldsIn (arc_value table) es
+            → StandsAt (arc_value result.table) result.page result.index es None }
         ensures table { result.table ≡ table }
         ensures port { result.port ≡ port }
         ensures nowhere { result.page.entries ≡ [] }
@@ -58,7 +58,7 @@ impl<P: Port> TableCursor<P> {
     /// The place in the file, in bytes, of the block that has the entry at which the cursor stands; None exactly at no place.
     pub fn place(&self) -> Option<u64>
         ensures none { IsNone result ↔ (length self.now.page.entries ≡ 0) }
-        ensures block { IfSome result (λ at. (at ≡ self.now.page.at) × ShowsOf P.File.tells P.File.bytes (arc_value self.now.table) self.now.index self.now.page) }
+        ensures block { IfSome result (λ at. (at ≡ self.now.page.at) × ShowsOf (arc_value self.now.table) self.now.index self.now.page) }
     {
         if self.page.is_empty() {
             return None;
@@ -85,7 +85,7 @@ impl<P: Port> TableCursor<P> {
     fn next_step(&self) -> Step
         ensures fits { Fits result self.now.page }
         ensures stays { length self.now.page.entries ≡ 0 → result ≡ Step.Nowhere }
-        ensures leads { (es : List Entry) → (holds : HoldsIn P.File.tells P.File.number P.File.bytes (arc_value self.now.table) es) → (place : Option ℕ) → OnPage self.now.page self.now.index (blocks_of holds.full es) es place
+        ensures leads { (es : List Entry) → (holds : HoldsIn (arc_value self.now.table) es) → (place : Option ℕ) → OnPage self.now.page self.now.index (blocks_of holds.full es) es place
             → target result self.now.index (blocks_of holds.full es) ≡ next_place es place }
     {
         if self.page.is_empty() {
@@ -106,7 +106,7 @@ impl<P: Port> TableCursor<P> {
     fn previous_step(&self) -> Step
         ensures fits { Fits result self.now.page }
         ensures stays { length self.now.page.entries ≡ 0 → result ≡ Step.Nowhere }
-        ensures leads { (es : List Entry) → (holds : HoldsIn P.File.tells P.File.number P.File.bytes (arc_value self.now.table) es) → (place : Option ℕ) → OnPage self.now.page self.now.index (blocks_of holds.full es) es place
+        ensures leads { (es : List Entry) → (holds : HoldsIn (arc_value self.now.table) es) → (place : Option ℕ) → OnPage self.now.page self.now.index (blocks_of holds.full es) es place
             → target result self.now.index (blocks_of holds.full es) ≡ previous_place place }
     {
         if self.page.is_empty() {
@@ -125,7 +125,7 @@ impl<P: Port> TableCursor<P> {
     /// To the last entry.
     fn last_step(&self) -> Step
         ensures fits { Fits result self.now.page }
-        ensures leads { (es : List Entry) → (holds : HoldsIn P.File.tells P.File.number P.File.bytes (arc_value self.now.table) es)
+        ensures leads { (es : List Entry) → (holds : HoldsIn (arc_value self.now.table) es)
             → target result self.now.index (blocks_of holds.full es) ≡ last_place es }
     {
         law_blocks();
@@ -138,12 +138,12 @@ impl<P: Port> TableCursor<P> {
 
     /// Shows the first entry of the block at an index, or nothing where there is none.
     fn show(&mut self, index: usize) -> Result<(), ReadFault>
-        ensures leads { (es : List Entry) → (holds : HoldsIn P.File.tells P.File.number P.File.bytes (arc_value self.old.table) es)
+        ensures leads { (es : List Entry) → (holds : HoldsIn (arc_value self.old.table) es)
             → IsTrue P.File.tells → Goes (OnPage self.new.page self.new.index (blocks_of holds.full es) es) (target (Step.First index) self.old.index (blocks_of holds.full es)) result }
         ensures index { self.new.index ≡ index }
         ensures table { self.new.table ≡ self.old.table }
         ensures nothing { OnErr result (self.new.page.entries ≡ []) }
-        ensures damaged { IfDamage result (IsDamageOf P.File.tells P.File.bytes (arc_value self.old.table)) }
+        ensures damaged { IfDamage result (IsDamageOf (arc_value self.old.table)) }
         ensures costs { Costs (P.reads self.old.port) (P.reads self.new.port) (P.faults self.old.port) (P.faults self.new.port) (P.table_files self.old.port) (P.table_files self.new.port) result }
         ensures steady { P.steady self.old.port → P.steady self.new.port × (result ≡ Err faults.Fault → ⊥) }
     {
@@ -159,11 +159,11 @@ impl<P: Port> TableCursor<P> {
 
     /// Shows the last entry of the block at an index, or nothing where there is none.
     fn show_last(&mut self, index: usize) -> Result<(), ReadFault>
-        ensures leads { (es : List Entry) → (holds : HoldsIn P.File.tells P.File.number P.File.bytes (arc_value self.old.table) es)
+        ensures leads { (es : List Entry) → (holds : HoldsIn (arc_value self.old.table) es)
             → IsTrue P.File.tells → Goes (OnPage self.new.page self.new.index (blocks_of holds.full es) es) (target (Step.Last index) self.old.index (blocks_of holds.full es)) result }
         ensures table { self.new.table ≡ self.old.table }
         ensures nothing { OnErr result (self.new.page.entries ≡ []) }
-        ensures damaged { IfDamage result (IsDamageOf P.File.tells P.File.bytes (arc_value self.old.table)) }
+        ensures damaged { IfDamage result (IsDamageOf (arc_value self.old.table)) }
         ensures costs { Costs (P.reads self.old.port) (P.reads self.new.port) (P.faults self.old.port) (P.faults self.new.port) (P.table_files self.old.port) (P.table_files self.new.port) result }
         ensures steady { P.steady self.old.port → P.steady self.new.port × (result ≡ Err faults.Fault → ⊥) }
     {
@@ -181,11 +181,11 @@ impl<P: Port> TableCursor<P> {
     fn go(&mut self, step: Step) -> Result<(), ReadFault>
         requires { Fits step self.old.page }
         ensures stays { step ≡ Step.Nowhere → IsOk result × (self.new.page.entries ≡ []) }
-        ensures leads { (es : List Entry) → (holds : HoldsIn P.File.tells P.File.number P.File.bytes (arc_value self.old.table) es) → (place : Option ℕ) → OnPage self.old.page self.old.index (blocks_of holds.full es) es place
+        ensures leads { (es : List Entry) → (holds : HoldsIn (arc_value self.old.table) es) → (place : Option ℕ) → OnPage self.old.page self.old.index (blocks_of holds.full es) es place
             → IsTrue P.File.tells → Goes (OnPage self.new.page self.new.index (blocks_of holds.full es) es) (target step self.old.index (blocks_of holds.full es)) result }
         ensures table { self.new.table ≡ self.old.table }
         ensures nothing { OnErr result (self.new.page.entries ≡ []) }
-        ensures damaged { IfDamage result (IsDamageOf P.File.tells P.File.bytes (arc_value self.old.table)) }
+        ensures damaged { IfDamage result (IsDamageOf (arc_value self.old.table)) }
         ensures costs { Costs (P.reads self.old.port) (P.reads self.new.port) (P.faults self.old.port) (P.faults self.new.port) (P.table_files self.old.port) (P.table_files self.new.port) result }
         ensures steady { P.steady self.old.port → P.steady self.new.port × (result ≡ Err faults.Fault → ⊥) }
     {
@@ -215,11 +215,11 @@ impl<P: Port> TableCursor<P> {
 
     /// Goes to the first entry at or behind this key and number, or to no place where all come before.
     fn go_to(&mut self, key: &[u8], number: Number) -> Result<(), ReadFault>
-        ensures leads { (es : List Entry) → (holds : HoldsIn P.File.tells P.File.number P.File.bytes (arc_value self.old.table) es)
+        ensures leads { (es : List Entry) → (holds : HoldsIn (arc_value self.old.table) es)
             → IsTrue P.File.tells → Goes (OnPage self.new.page self.new.index (blocks_of holds.full es) es) (place_from key.now number es) result }
         ensures table { self.new.table ≡ self.old.table }
         ensures nothing { OnErr result (self.new.page.entries ≡ []) }
-        ensures damaged { IfDamage result (IsDamageOf P.File.tells P.File.bytes (arc_value self.old.table)) }
+        ensures damaged { IfDamage result (IsDamageOf (arc_value self.old.table)) }
         ensures costs { Costs (P.reads self.old.port) (P.reads self.new.port) (P.faults self.old.port) (P.faults self.new.port) (P.table_files self.old.port) (P.table_files self.new.port) result }
         ensures steady { P.steady self.old.port → P.steady self.new.port × (result ≡ Err faults.Fault → ⊥) }
     {
@@ -250,7 +250,7 @@ impl<P: Port> Cursor for TableCursor<P> {
     ghost use Rattle.table_cursor.specs.Standing.{StandsAt};
     ghost use Rattle.table_cursor.specs.StandingLaws.{stands_among};
 
-    ghost stands = { λ cursor es place. StandsAt P.File.tells P.File.number P.File.bytes (arc_value cursor.table) cursor.page cursor.index es place };
+    ghost stands = { λ cursor es place. StandsAt (arc_value cursor.table) cursor.page cursor.index es place };
 
     ghost is_nowhere = { λ cursor. nat_eq (length cursor.page.entries) 0 };
 
@@ -264,13 +264,13 @@ impl<P: Port> Cursor for TableCursor<P> {
     ///
     /// `Damaged` comes only where no bytes of a block that agrees with the table's index and row stand at the place that it tells.
     fn seek(&mut self, key: &[u8], number: Number) -> Result<(), ReadFault>
-        ensures goes { (es : List Entry) (place : Option ℕ) → StandsAt P.File.tells P.File.number P.File.bytes (arc_value self.old.table) self.old.page self.old.index es place
-            → Goes (StandsAt P.File.tells P.File.number P.File.bytes (arc_value self.new.table) self.new.page self.new.index es) (place_from key.now number es) result }
+        ensures goes { (es : List Entry) (place : Option ℕ) → StandsAt (arc_value self.old.table) self.old.page self.old.index es place
+            → Goes (StandsAt (arc_value self.new.table) self.new.page self.new.index es) (place_from key.now number es) result }
         ensures nowhere { OnErr result (nat_eq (length self.new.page.entries) 0 ≡ true) }
         ensures refused { self.new.refused ≡ refusal result }
         ensures later { P.faults self.old.port ≤ P.faults self.new.port }
         ensures cause { OnFault result (Rose (P.faults self.old.port) (P.faults self.new.port)) }
-        ensures damaged { IfDamage result (IsDamageOf P.File.tells P.File.bytes (arc_value self.old.table)) }
+        ensures damaged { IfDamage result (IsDamageOf (arc_value self.old.table)) }
         ensures reads { P.reads self.new.port ≤ P.reads self.old.port + 1 }
         ensures steady { P.steady self.old.port → P.steady self.new.port × (result ≡ Err faults.Fault → ⊥) }
         ensures files { P.table_files self.new.port ≡ P.table_files self.old.port }
@@ -282,13 +282,13 @@ impl<P: Port> Cursor for TableCursor<P> {
     }
 
     fn first(&mut self) -> Result<(), ReadFault>
-        ensures goes { (es : List Entry) (place : Option ℕ) → StandsAt P.File.tells P.File.number P.File.bytes (arc_value self.old.table) self.old.page self.old.index es place
-            → Goes (StandsAt P.File.tells P.File.number P.File.bytes (arc_value self.new.table) self.new.page self.new.index es) (first_place es) result }
+        ensures goes { (es : List Entry) (place : Option ℕ) → StandsAt (arc_value self.old.table) self.old.page self.old.index es place
+            → Goes (StandsAt (arc_value self.new.table) self.new.page self.new.index es) (first_place es) result }
         ensures nowhere { OnErr result (nat_eq (length self.new.page.entries) 0 ≡ true) }
         ensures refused { self.new.refused ≡ refusal result }
         ensures later { P.faults self.old.port ≤ P.faults self.new.port }
         ensures cause { OnFault result (Rose (P.faults self.old.port) (P.faults self.new.port)) }
-        ensures damaged { IfDamage result (IsDamageOf P.File.tells P.File.bytes (arc_value self.old.table)) }
+        ensures damaged { IfDamage result (IsDamageOf (arc_value self.old.table)) }
         ensures reads { P.reads self.new.port ≤ P.reads self.old.port + 1 }
         ensures steady { P.steady self.old.port → P.steady self.new.port × (result ≡ Err faults.Fault → ⊥) }
         ensures files { P.table_files self.new.port ≡ P.table_files self.old.port }
@@ -300,13 +300,13 @@ impl<P: Port> Cursor for TableCursor<P> {
     }
 
     fn last(&mut self) -> Result<(), ReadFault>
-        ensures goes { (es : List Entry) (place : Option ℕ) → StandsAt P.File.tells P.File.number P.File.bytes (arc_value self.old.table) self.old.page self.old.index es place
-            → Goes (StandsAt P.File.tells P.File.number P.File.bytes (arc_value self.new.table) self.new.page self.new.index es) (last_place es) result }
+        ensures goes { (es : List Entry) (place : Option ℕ) → StandsAt (arc_value self.old.table) self.old.page self.old.index es place
+            → Goes (StandsAt (arc_value self.new.table) self.new.page self.new.index es) (last_place es) result }
         ensures nowhere { OnErr result (nat_eq (length self.new.page.entries) 0 ≡ true) }
         ensures refused { self.new.refused ≡ refusal result }
         ensures later { P.faults self.old.port ≤ P.faults self.new.port }
         ensures cause { OnFault result (Rose (P.faults self.old.port) (P.faults self.new.port)) }
-        ensures damaged { IfDamage result (IsDamageOf P.File.tells P.File.bytes (arc_value self.old.table)) }
+        ensures damaged { IfDamage result (IsDamageOf (arc_value self.old.table)) }
         ensures reads { P.reads self.new.port ≤ P.reads self.old.port + 1 }
         ensures steady { P.steady self.old.port → P.steady self.new.port × (result ≡ Err faults.Fault → ⊥) }
         ensures files { P.table_files self.new.port ≡ P.table_files self.old.port }
@@ -319,14 +319,14 @@ impl<P: Port> Cursor for TableCursor<P> {
     }
 
     fn next(&mut self) -> Result<(), ReadFault>
-        ensures goes { (es : List Entry) (place : Option ℕ) → StandsAt P.File.tells P.File.number P.File.bytes (arc_value self.old.table) self.old.page self.old.index es place
-            → Goes (StandsAt P.File.tells P.File.number P.File.bytes (arc_value self.new.table) self.new.page self.new.index es) (next_place es place) result }
+        ensures goes { (es : List Entry) (place : Option ℕ) → StandsAt (arc_value self.old.table) self.old.page self.old.index es place
+            → Goes (StandsAt (arc_value self.new.table) self.new.page self.new.index es) (next_place es place) result }
         ensures stays { nat_eq (length self.old.page.entries) 0 ≡ true → IsOk result × (nat_eq (length self.new.page.entries) 0 ≡ true) }
         ensures nowhere { OnErr result (nat_eq (length self.new.page.entries) 0 ≡ true) }
         ensures refused { self.new.refused ≡ refusal result }
         ensures later { P.faults self.old.port ≤ P.faults self.new.port }
         ensures cause { OnFault result (Rose (P.faults self.old.port) (P.faults self.new.port)) }
-        ensures damaged { IfDamage result (IsDamageOf P.File.tells P.File.bytes (arc_value self.old.table)) }
+        ensures damaged { IfDamage result (IsDamageOf (arc_value self.old.table)) }
         ensures reads { P.reads self.new.port ≤ P.reads self.old.port + 1 }
         ensures steady { P.steady self.old.port → P.steady self.new.port × (result ≡ Err faults.Fault → ⊥) }
         ensures files { P.table_files self.new.port ≡ P.table_files self.old.port }
@@ -339,14 +339,14 @@ impl<P: Port> Cursor for TableCursor<P> {
     }
 
     fn prev(&mut self) -> Result<(), ReadFault>
-        ensures goes { (es : List Entry) (place : Option ℕ) → StandsAt P.File.tells P.File.number P.File.bytes (arc_value self.old.table) self.old.page self.old.index es place
-            → Goes (StandsAt P.File.tells P.File.number P.File.bytes (arc_value self.new.table) self.new.page self.new.index es) (previous_place place) result }
+        ensures goes { (es : List Entry) (place : Option ℕ) → StandsAt (arc_value self.old.table) self.old.page self.old.index es place
+            → Goes (StandsAt (arc_value self.new.table) self.new.page self.new.index es) (previous_place place) result }
         ensures stays { nat_eq (length self.old.page.entries) 0 ≡ true → IsOk result × (nat_eq (length self.new.page.entries) 0 ≡ true) }
         ensures nowhere { OnErr result (nat_eq (length self.new.page.entries) 0 ≡ true) }
         ensures refused { self.new.refused ≡ refusal result }
         ensures later { P.faults self.old.port ≤ P.faults self.new.port }
         ensures cause { OnFault result (Rose (P.faults self.old.port) (P.faults self.new.port)) }
-        ensures damaged { IfDamage result (IsDamageOf P.File.tells P.File.bytes (arc_value self.old.table)) }
+        ensures damaged { IfDamage result (IsDamageOf (arc_value self.old.table)) }
         ensures reads { P.reads self.new.port ≤ P.reads self.old.port + 1 }
         ensures steady { P.steady self.old.port → P.steady self.new.port × (result ≡ Err faults.Fault → ⊥) }
         ensures files { P.table_files self.new.port ≡ P.table_files self.old.port }
@@ -361,9 +361,9 @@ impl<P: Port> Cursor for TableCursor<P> {
     /// Lends the entry at its place; None exactly at no place. The entry is one of a block that agrees with the table's index and
     /// row, and whose bytes stand in the table's file.
     fn at(&self) -> Option<EntryRef<'_>>
-        ensures shown { (es : List Entry) (place : Option ℕ) → StandsAt P.File.tells P.File.number P.File.bytes (arc_value self.now.table) self.now.page self.now.index es place → option_map entry_of result ≡ entry_at es place }
+        ensures shown { (es : List Entry) (place : Option ℕ) → StandsAt (arc_value self.now.table) self.now.page self.now.index es place → option_map entry_of result ≡ entry_at es place }
         ensures nowhere { IsNone result ↔ (nat_eq (length self.now.page.entries) 0 ≡ true) }
-        ensures agrees { IfSome result (λ entry. IsOfBlock P.File.tells P.File.bytes (arc_value self.now.table) (entry_of entry)) }
+        ensures agrees { IfSome result (λ entry. IsOfBlock (arc_value self.now.table) (entry_of entry)) }
     {
         if self.page.is_empty() {
             return None;

@@ -31,13 +31,6 @@ fold-push f a (y ∷ xs) x = fold-push f (f a y) xs x
 pub cut_of-push : (full : ℕ) (es : List Entry) (e : Entry) → cut_of full (es ++ e ∷ []) ≡ cut_on full (cut_of full es) e
 cut_of-push full es e = fold-push (cut_on full) (record { closed = []; begun = [] }) es e
 
-pub cut_open : (full : ℕ) (es : List Entry) (e : Entry) → length (block_bytes ((cut_of full es).begun ++ e ∷ [])) < full
-    → cut_of full (es ++ e ∷ []) ≡ record { closed = (cut_of full es).closed; begun = (cut_of full es).begun ++ e ∷ [] }
-cut_open full es e room =
-    let cut = cut_of full es in
-    let no_ : nat_le full (length (block_bytes (cut.begun ++ e ∷ []))) ≡ false = grind (arith, nat_tests, room) in
-    cut_of-push full es e ∙ ap (λ b. if b then record { closed = cut.closed ++ (cut.begun ++ e ∷ []) ∷ []; begun = [] } else record { closed = cut.closed; begun = cut.begun ++ e ∷ [] }) no_
-
 pub cut_closed : (full : ℕ) (es : List Entry) (e : Entry) → full ≤ length (block_bytes ((cut_of full es).begun ++ e ∷ []))
     → cut_of full (es ++ e ∷ []) ≡ record { closed = (cut_of full es).closed ++ ((cut_of full es).begun ++ e ∷ []) ∷ []; begun = [] }
 cut_closed full es e long =
@@ -131,16 +124,6 @@ fault_closed full es e index key few long indexes is =
     ap (λ b. if b then Some (Limit kinds.Entries 1717986918) else blocks_fault (cut_of full (es ++ e ∷ [])).closed) some
     ∙ ap (λ (c : Cut). blocks_fault c.closed) (cut_closed full es e long)
     ∙ ap index_fault (length-closed index cut.closed (cut.begun ++ e ∷ []) key indexes is)
-
-pub fault_open : (full : ℕ) (es : List Entry) (e : Entry) (index : Index) → length es < 1717986918 → length (block_bytes ((cut_of full es).begun ++ e ∷ [])) < full → Indexes index (cut_of full es).closed
-    → push_fault full es e ≡ None
-fault_open full es e index few room indexes =
-    let cut = cut_of full es in
-    let some : nat_le 1717986918 (length es) ≡ false = grind (arith, nat_tests, few) in
-    let short : nat_lt 2147483648 (length (index_bytes (items_from 0 cut.closed))) ≡ false = grind (arith, nat_tests, index.short, indexes.bytes, ap (λ l. length (index_bytes l)) indexes.items) in
-    ap (λ b. if b then Some (Limit kinds.Entries 1717986918) else blocks_fault (cut_of full (es ++ e ∷ [])).closed) some
-    ∙ ap (λ (c : Cut). blocks_fault c.closed) (cut_open full es e room)
-    ∙ ap (λ b. if b then Some (Limit kinds.Index 2147483648) else None) short
 
 pub length-none : length (block_bytes []) ≡ 5
 unfolding block_bytes entries_bytes restarts

@@ -1,5 +1,6 @@
 pub mod Cuts
 pub mod Footers
+pub mod Holding
 pub mod IndexWalk
 pub mod Indexing
 pub mod Lengths

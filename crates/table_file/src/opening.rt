@@ -1,10 +1,10 @@
 //! Opening tables.
 
 ghost use Rattle.std.specs.Prelude.{◌≡◌, ◌+◌, ◌-◌, ◌<◌, ◌≤◌, ◌^◌, List, ℕ, Some, Err, length, take, drop, IsTrue, IfOk, IfErr};
-ghost use Rattle.disk_model.specs.Images.{Rose};
 ghost use Rattle.table_file.specs.Damages.{IsDamage, TellsTable};
 ghost use Rattle.table_file.specs.Form.{footer_bytes, index_bytes};
 ghost use Rattle.table_file.specs.Opening.{IsFooterOf, IsIndex, IsNoTable, OpensAs};
+ghost use Rattle.table_file.specs.Ports.{ReadsAtMost};
 ghost use Rattle.table_file.specs.declared.table_fault.TableFault.TheVariants.{Fault};
 
 use crate::footer::{Footer, footer_for};
@@ -30,11 +30,7 @@ fn read_at<P: Port>(
     ensures short { IfOk result (λ bytes. length bytes.items ≤ len) }
     ensures undamaged { IfErr result (λ why. IsDamage why → ⊥) }
     ensures table { IfErr result (λ why. (number : ℕ) → TellsTable number why) }
-    ensures files { P.table_files port.new ≡ P.table_files port.old }
-    ensures reads { P.reads port.new ≤ P.reads port.old + 1 }
-    ensures steady { P.steady port.old → P.steady port.new }
-    ensures later { P.faults port.old ≤ P.faults port.new }
-    ensures cause { result ≡ Err Fault → Rose (P.faults port.old) (P.faults port.new) }
+    ensures port { ReadsAtMost P.Port 1 port.old port.new (result ≡ Err Fault) }
 {
     let mut bytes = match vec![in alloc; 0u8; len] {
         Ok(bytes) => bytes,
@@ -61,11 +57,7 @@ fn read_footer<P: Port>(
     ensures spelled { IfOk result (λ footer. IsTrue P.File.tells → drop (row.now.bytes - 48) (P.File.bytes file.now) ≡ footer_bytes footer) }
     ensures damaged { IfErr result (λ why. IsDamage why → IsTrue P.File.tells → IsNoTable row.now (P.File.bytes file.now)) }
     ensures table { IfErr result (TellsTable row.now.number) }
-    ensures files { P.table_files port.new ≡ P.table_files port.old }
-    ensures reads { P.reads port.new ≤ P.reads port.old + 1 }
-    ensures steady { P.steady port.old → P.steady port.new }
-    ensures later { P.faults port.old ≤ P.faults port.new }
-    ensures cause { result ≡ Err Fault → Rose (P.faults port.old) (P.faults port.new) }
+    ensures port { ReadsAtMost P.Port 1 port.old port.new (result ≡ Err Fault) }
 {
     let at = row.bytes - 48;
     let bytes = match read_at(alloc, port, file, at, 49) {
@@ -103,11 +95,7 @@ fn read_index<P: Port>(
     ensures spelled { IfOk result (λ items. IsTrue P.File.tells → take footer.now.index_len (drop footer.now.index (P.File.bytes file.now)) ≡ index_bytes items.items) }
     ensures damaged { IfErr result (λ why. IsDamage why → IsTrue P.File.tells → drop (row.now.bytes - 48) (P.File.bytes file.now) ≡ footer_bytes footer.now → IsNoTable row.now (P.File.bytes file.now)) }
     ensures table { IfErr result (TellsTable row.now.number) }
-    ensures files { P.table_files port.new ≡ P.table_files port.old }
-    ensures reads { P.reads port.new ≤ P.reads port.old + 1 }
-    ensures steady { P.steady port.old → P.steady port.new }
-    ensures later { P.faults port.old ≤ P.faults port.new }
-    ensures cause { result ≡ Err Fault → Rose (P.faults port.old) (P.faults port.new) }
+    ensures port { ReadsAtMost P.Port 1 port.old port.new (result ≡ Err Fault) }
 {
     let bytes = match read_at(alloc, port, file, footer.index, footer.index_len as usize) {
         Ok(bytes) => bytes,
@@ -137,11 +125,7 @@ fn read_filter<P: Port>(
     ensures long { IfOk result (λ filter. length filter ≡ footer.now.filter_len) }
     ensures damaged { IfErr result (λ why. IsDamage why → IsTrue P.File.tells → length (P.File.bytes file.now) ≡ row.now.bytes → ⊥) }
     ensures table { IfErr result (TellsTable row.now.number) }
-    ensures files { P.table_files port.new ≡ P.table_files port.old }
-    ensures reads { P.reads port.new ≤ P.reads port.old + 1 }
-    ensures steady { P.steady port.old → P.steady port.new }
-    ensures later { P.faults port.old ≤ P.faults port.new }
-    ensures cause { result ≡ Err Fault → Rose (P.faults port.old) (P.faults port.new) }
+    ensures port { ReadsAtMost P.Port 1 port.old port.new (result ≡ Err Fault) }
 {
     let bytes = match read_at(alloc, port, file, footer.filter, footer.filter_len as usize) {
         Ok(bytes) => bytes,
@@ -178,11 +162,7 @@ impl<F: TableHandle> Table<F> {
         ensures opened { IfOk result (λ table. IsTrue F.tells → OpensAs row table.items.items table.filter (F.bytes table.file)) }
         ensures damaged { IfErr result (λ why. IsDamage why → IsTrue F.tells → (bytes : List ℕ) → (P.table_files port.old).sealed row.number ≡ Some bytes → IsNoTable row bytes) }
         ensures table { IfErr result (TellsTable row.number) }
-        ensures files { P.table_files port.new ≡ P.table_files port.old }
-        ensures reads { P.reads port.new ≤ P.reads port.old + 3 }
-        ensures steady { P.steady port.old → P.steady port.new }
-        ensures later { P.faults port.old ≤ P.faults port.new }
-        ensures cause { result ≡ Err Fault → Rose (P.faults port.old) (P.faults port.new) }
+        ensures port { ReadsAtMost P.Port 3 port.old port.new (result ≡ Err Fault) }
     {
         let found = match port.find(row.number) {
             Ok(found) => found,

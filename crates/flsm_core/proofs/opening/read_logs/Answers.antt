@@ -3,7 +3,6 @@ use Rattle.disk_model.specs.Images.{Image}
 use Rattle.disk_model.specs.declared.journal_file.JournalFile.TheVariants.{Log}
 use Rattle.record_log.specs.Log.{IsUnfinished}
 use Rattle.flsm_core.specs.declared.found.Found.{Found}
-use Rattle.flsm_core.specs.Device.{device}
 use Rattle.flsm_core.specs.Logs.{BeginsLogs}
 use Rattle.flsm_core.specs.Opening.{IsFound, AreKept}
 use Rattle.flsm_core.proofs.Founds.{begins_end}
@@ -14,7 +13,7 @@ pub loop-number-init : goal.loop-number-init
 loop-number-init g c = record {
   count = omega (arith, (c.new-found.ensures c.args.profile).count);
   so_far = ([], [], c.new-found.ensures c.args.profile, λ told. tt);
-  watched = watched_none (device g.J.Journal.tells g.J.Journal.seen g.J.Journal.may_leave g.J.Journal.moment g.J.Journal.left_since) c.args.journal.now
+  watched = watched_none g.J.Journal c.args.journal.now
       (g.met.J.Journal.counts_now c.args.journal.now) (g.met.J.Journal.only_now c.args.journal.now);
   kept = λ m some within. absurd (omega (arith, some, within, (c.new-found.ensures c.args.profile).count));
   later = omega arith;
@@ -22,7 +21,7 @@ loop-number-init g c = record {
 
 pub returns-in-Err-clause-watched : goal.returns-in-Err-clause-watched
 returns-in-Err-clause-watched g c =
-    watched_on (device g.J.Journal.tells g.J.Journal.seen g.J.Journal.may_leave g.J.Journal.moment g.J.Journal.left_since) c.args.journal.now c.loop-number.journal c.next_log.new.journal
+    watched_on g.J.Journal c.args.journal.now c.loop-number.journal c.next_log.new.journal
     (λ image left. g.met.J.Journal.counts_now c.loop-number.journal _ image c.loop-number.invariant.watched.time.later left)
     c.loop-number.invariant.watched c.next_log.ensures.watched
 
@@ -41,7 +40,7 @@ returns-then-not-more-clause-found g c =
 
 pub returns-then-not-more-clause-kept : goal.returns-then-not-more-clause-kept
 returns-then-not-more-clause-kept g c =
-    let d = device g.J.Journal.tells g.J.Journal.seen g.J.Journal.may_leave g.J.Journal.moment g.J.Journal.left_since in
+    let d = g.J.Journal in
     let done = c.in-Ok.ensures.done c.if-not-more.true in
     subst (λ (f : Found). AreKept d c.next_log.new.journal (f.logs + 1)) (sym done.0)
     (kept_more d c.loop-number.journal c.next_log.new.journal c.loop-number.found.logs c.next_log.ensures.watched c.in-Ok.ensures.kept
@@ -50,13 +49,13 @@ returns-then-not-more-clause-kept g c =
 
 pub returns-then-not-more-clause-watched : goal.returns-then-not-more-clause-watched
 returns-then-not-more-clause-watched g c =
-    watched_on (device g.J.Journal.tells g.J.Journal.seen g.J.Journal.may_leave g.J.Journal.moment g.J.Journal.left_since) c.args.journal.now c.loop-number.journal c.next_log.new.journal
+    watched_on g.J.Journal c.args.journal.now c.loop-number.journal c.next_log.new.journal
     (λ image left. g.met.J.Journal.counts_now c.loop-number.journal _ image c.loop-number.invariant.watched.time.later left)
     c.loop-number.invariant.watched c.next_log.ensures.watched
 
 pub loop-number-preserved : goal.loop-number-preserved
 loop-number-preserved g c =
-    let d = device g.J.Journal.tells g.J.Journal.seen g.J.Journal.may_leave g.J.Journal.moment g.J.Journal.left_since in
+    let d = g.J.Journal in
     let found = c.loop-number.invariant.so_far in
     let count = c.in-Ok.ensures.count c.if-not-more.false in
     let same : g.J.Journal.seen c.loop-number.journal ≡ g.J.Journal.seen c.args.journal.now = c.loop-number.invariant.watched.seen in

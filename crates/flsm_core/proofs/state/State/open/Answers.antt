@@ -1,7 +1,6 @@
 use Rattle.std.proofs.Common.{◌≡◌, ◌+◌, ◌*◌, ◌^◌, ◌<◌, ℕ, true, false, arith, sym, ap, ◌∙◌, subst}
 use Rattle.peb_base.specs.Batches.{Batches, last_number}
 use Rattle.disk_model.specs.Images.{Image}
-use Rattle.flsm_core.specs.Device.{device}
 use Rattle.flsm_core.specs.Logs.{Reads, Stands}
 use Rattle.flsm_core.specs.Opening.{AreKept}
 use Rattle.flsm_core.specs.Place.{opened}
@@ -11,7 +10,7 @@ use Rattle.flsm_core.proofs.state.State.open.Goals as goal
 
 pub returns-in-Ok-clause-stands : goal.returns-in-Ok-clause-stands
 returns-in-Ok-clause-stands g c = if_ok c.begin.result _ _ (λ state at told honest base on.
-    let d = device g.J.Journal.tells g.J.Journal.seen g.J.Journal.may_leave g.J.Journal.moment g.J.Journal.left_since in
+    let d = g.J.Journal in
     let start : ℕ = g.J.Journal.moment c.args.journal in
     let found = c.in-Ok.ensures.found in
     let read : Read d c.args.journal c.read_logs.new.journal found.0 found.1 = record {
@@ -50,7 +49,7 @@ returns-in-Ok-clause-some g c = if_ok c.begin.result _ _ (λ state at.
 
 pub returns-in-Ok-clause-fresh : goal.returns-in-Ok-clause-fresh
 returns-in-Ok-clause-fresh g c = if_ok c.begin.result _ _ (λ state session told base stands.
-    let d = device g.J.Journal.tells g.J.Journal.seen g.J.Journal.may_leave g.J.Journal.moment g.J.Journal.left_since in
+    let d = g.J.Journal in
     let found = c.in-Ok.ensures.found in
     let read : Read d c.args.journal c.read_logs.new.journal found.0 found.1 = record {
       reads = record { holds = found.3 told; spelled = found.2.spelled; ordered = found.2.replay.ordered };
@@ -67,7 +66,7 @@ returns-in-Ok-clause-fresh g c = if_ok c.begin.result _ _ (λ state session told
 
 pub returns-in-Ok-clause-images : goal.returns-in-Ok-clause-images
 returns-in-Ok-clause-images g c = if_err c.begin.result _ _ (λ e images told base on image left.
-    let d = device g.J.Journal.tells g.J.Journal.seen g.J.Journal.may_leave g.J.Journal.moment g.J.Journal.left_since in
+    let d = g.J.Journal in
     let found = c.in-Ok.ensures.found in
     let read : Read d c.args.journal c.read_logs.new.journal found.0 found.1 = record {
       reads = record { holds = found.3 told; spelled = found.2.spelled; ordered = found.2.replay.ordered };

@@ -3,7 +3,6 @@ use Rattle.peb_base.specs.declared.op.Op.{Op}
 use Rattle.record_log.specs.BatchRecord.{batch_bytes, IsBatch}
 use Rattle.record_log.specs.Groups.{record_bytes}
 use Rattle.record_log.specs.State.{log_tail}
-use Rattle.flsm_core.specs.Device.{device}
 use Rattle.flsm_core.specs.Logs.{record_of, record_of-is}
 use Rattle.flsm_core.specs.Place.{put_op, next_number, all_of}
 use Rattle.flsm_core.proofs.At.{at_put}
@@ -11,7 +10,7 @@ use Rattle.flsm_core.proofs.state.StateStore.put.Goals as goal
 
 pub returns-clause-stands : goal.returns-clause-stands
 returns-clause-stands g c = λ p is.
-    let d = device g.J.Journal.tells g.J.Journal.seen g.J.Journal.may_leave g.J.Journal.moment g.J.Journal.left_since in
+    let d = g.J.Journal in
     let batch : c.in-Ok.batch ≡ put_op c.args.key c.args.value ∷ [] = c.in-Ok.ensures in
     let body : c.in-Ok-write_batch.body.items ≡ batch_bytes c.in-Some.number (put_op c.args.key c.args.value ∷ []) =
     c.in-Ok-write_batch.ensures.bytes ∙ ap (batch_bytes c.in-Some.number) batch in

@@ -1,12 +1,11 @@
 use Rattle.std.proofs.Common.{◌≡◌, false, refl, sym, ◌∙◌}
-use Rattle.flsm_core.specs.Device.{device}
 use Rattle.flsm_core.proofs.At.{at_synced, at_halted, during_close}
 use Rattle.flsm_core.proofs.state.StateStore.sync.Goals as goal
 
 pub returns-in-Ok-clause-stands : goal.returns-in-Ok-clause-stands
 returns-in-Ok-clause-stands g c = λ p is.
     let fine : p.stopped ≡ false = sym is.stopped ∙ c.if-self.false in
-    let d = device g.J.Journal.tells g.J.Journal.seen g.J.Journal.may_leave g.J.Journal.moment g.J.Journal.left_since in
+    let d = g.J.Journal in
     at_synced d c.args.self.now _ p refl refl refl refl fine c.in-Ok.ensures.tail c.close_group.ensures.time
     (λ told. record {
       images = c.close_group.ensures.any_moment;
@@ -21,7 +20,7 @@ returns-in-Ok-clause-stands g c = λ p is.
 pub returns-in-Err-clause-stands : goal.returns-in-Err-clause-stands
 returns-in-Err-clause-stands g c = λ p is.
     let fine : p.stopped ≡ false = sym is.stopped ∙ c.if-self.false in
-    let d = device g.J.Journal.tells g.J.Journal.seen g.J.Journal.may_leave g.J.Journal.moment g.J.Journal.left_since in
+    let d = g.J.Journal in
     at_halted d c.args.self.now _ p refl refl refl c.close_group.ensures.time
     (λ told image left. g.met.J.Journal.counts_now c.close_group.new.journal _ image c.close_group.ensures.time.later left)
     (λ told honest. during_close d c.args.self.now c.close_group.new.journal p fine is told honest c.close_group.ensures.any_moment)

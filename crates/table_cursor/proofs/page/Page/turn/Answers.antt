@@ -11,7 +11,7 @@ use Rattle.table_cursor.proofs.Pages.{none_in, empty_page, full_page}
 use Rattle.table_cursor.proofs.page.Page.turn.Goals as goal
 
 pub invariant_of-self : goal.invariant_of-self
-invariant_of-self g c = empty_page c.self.inside.len c.self.inside.place c.fetch.new.loan c.self.inside.key c.self.invariant.fits
+invariant_of-self g c = empty_page c.self.inside.len c.self.inside.place c.self.inside.here c.fetch.new.loan c.self.inside.key c.self.invariant.fits
 
 pub returns-in-Err-clause-empty : goal.returns-in-Err-clause-empty
 returns-in-Err-clause-empty g c = none_in (take c.self.inside.len c.fetch.new.loan)

@@ -22,8 +22,6 @@ returns-clause-leads g c = λ es holds told.
     let whole = c.law_blocks.ensures.joined holds.full es holds.least holds.most holds.table.sorted in
     let are = c.law_blocks.ensures.blocks holds.full es holds.least holds.most holds.table.sorted in
     let lt : c.args.index < length (arc_value c.args.self.now.table).items.items = omega (arith, c.if-index-blocks.false, c.blocks-2.ensures, ap (λ t. length t.items.items) c.deref.ensures) in
-    let tells = g.P.File.TableHandle.tells in
-    let bytes = g.P.File.TableHandle.bytes in
     turned c.one_block.ensures _ _ _ _ _ _ es holds told whole are c.args.index c.turn.new.self c.turn.result lt
-    (subst (λ t. OnOk c.turn.result (ShowsOf tells bytes t c.args.index c.turn.new.self)) c.deref-2.ensures c.turn.ensures.shows) c.turn.ensures.form c.turn.ensures.first c.turn.ensures.empty
-    (subst (λ t. IfDamage c.turn.result (IsDamageOf tells bytes t)) c.deref-2.ensures c.turn.ensures.damaged)
+    (subst (λ t. OnOk c.turn.result (ShowsOf t c.args.index c.turn.new.self)) c.deref-2.ensures c.turn.ensures.shows) c.turn.ensures.form c.turn.ensures.first c.turn.ensures.empty
+    (subst (λ t. IfDamage c.turn.result (IsDamageOf t)) c.deref-2.ensures c.turn.ensures.damaged)
