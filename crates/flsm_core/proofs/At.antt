@@ -4,10 +4,13 @@ use Rattle.std.proofs.lemmas.List.{append-nil}
 use Rattle.std.specs.List.{AllByRecursion}
 use Rattle.peb_base.specs.declared.op.Op.{Op}
 use Rattle.peb_base.specs.Numbers.{session_of}
+use Rattle.peb_base.specs.declared.profile.Profile.{Profile}
 use Rattle.peb_base.specs.Batches.{Batches, last_number, are_in_order}
 use Rattle.peb_base.specs.Map.{apply_change, map_at}
 use Rattle.peb_base.specs.MapLaws.{last_of_push, in_order_push, map_after_one}
-use Rattle.disk_model.specs.Images.{Image, Elapses}
+use Rattle.disk_model.specs.declared.journal_file.JournalFile.TheVariants.{Log}
+use Rattle.disk_model.specs.Images.{Image, Elapses, Follows, In, Rose}
+use Rattle.record_log.specs.Crash.{Creates}
 use Rattle.record_log.specs.declared.log_file.LogFile.{LogFile}
 use Rattle.record_log.specs.declared.header.Header.{Header}
 use Rattle.record_log.specs.Groups.{record_bytes}
@@ -16,23 +19,23 @@ use Rattle.record_log.specs.Ready.{ready_with}
 use Rattle.flsm_core.specs.declared.state.State.{State}
 use Rattle.disk_model.specs.declared.journal.Journal.{Ghosts}
 use Rattle.flsm_core.specs.Logs.{Held, IsBatchIn, Stands, record_of}
-use Rattle.flsm_core.specs.Opening.{Quiet}
-use Rattle.flsm_core.specs.Place.{Place, all_of, opened, next_number, with_batch, all_settled, halted}
+use Rattle.flsm_core.specs.Opening.{HasRead}
+use Rattle.flsm_core.specs.Place.{Place, Start, all_of, opened, next_number, with_batch, all_settled, halted}
 use Rattle.flsm_core.specs.Standing.{IsFront, Leaves, Waits, Rests, IsAt}
 use Rattle.flsm_core.proofs.Orders.{front_refl, front_more, front_trans}
 use Rattle.flsm_core.proofs.Spelled.{each-append, waiting-push}
 use Rattle.flsm_core.proofs.Images.{ClosesAny, HasClosed, close_leaves, close_rests, rests_leaves, HasCreated, create_leaves, create_rests}
 
-leaves_lower : (low least all : Batches) (image : Image) → IsFront low least → Leaves least all image → Leaves low all image
-leaves_lower low least all image front leaves = record {
+leaves_lower : (profile : Profile) (low least all : Batches) (image : Image) → IsFront low least → Leaves profile least all image → Leaves profile low all image
+leaves_lower profile low least all image front leaves = record {
   batches = leaves.batches;
   enough = front_trans low least leaves.batches front leaves.enough;
   within = leaves.within;
   stands = leaves.stands;
 }
 
-leaves_grow : (least all more : Batches) (image : Image) → Leaves least all image → Leaves least (all ++ more) image
-leaves_grow least all more image leaves = record {
+leaves_grow : (profile : Profile) (least all more : Batches) (image : Image) → Leaves profile least all image → Leaves profile least (all ++ more) image
+leaves_grow profile least all more image leaves = record {
   batches = leaves.batches;
   enough = leaves.enough;
   within = front_trans leaves.batches all (all ++ more) leaves.within (front_more all more);
@@ -60,6 +63,7 @@ rests_moved d journal log log' session p b file place rests = record {
   logs = rests.logs;
   current = rests.current;
   holds = rests.holds;
+  same = rests.same;
   spelled = rests.spelled;
   none_above = rests.none_above;
   file = file ∙ rests.file;
@@ -94,18 +98,20 @@ at_one_more {D} d old new n op p did next is =
     let one : n + 1 - 1 ≡ n = omega arith in
     let last : last_number (all_of p ++ (n, op ∷ []) ∷ []) ≡ n = last_of_push (all_of p) n (op ∷ []) next ∙ one in
     record {
-      began = subst (λ (j : D). p.start ≤ d.moment j) (sym did.journal) is.began;
+      began = subst (λ (j : D). p.start.moment ≤ d.moment j) (sym did.journal) is.began;
+      counted = subst (λ (j : D). p.start.faults ≤ d.faults j) (sym did.journal) is.counted;
       grown = is.grown;
       ordered = ap are_in_order grown ∙ in_order_push (all_of p) n (op ∷ []) is.ordered next (omega arith) (ap session_of (sym one));
       last = did.last ∙ sym (ap last_number grown ∙ last);
       current = did.current ∙ ap (λ m. apply_change op.key op.change m) is.current
           ∙ sym (map_after_one (all_of p) n op next) ∙ sym (ap (λ bs. map_at bs (last_number bs)) grown ∙ ap (map_at (all_of p ++ (n, op ∷ []) ∷ [])) last);
       stopped = did.stopped ∙ is.stopped;
+      halted = λ over. subst (λ (j : D). Rose p.start.faults (d.faults j)) (sym did.journal) (is.halted over);
       waits = λ fine. waits_put old new n op p did (is.waits fine);
-      since = λ told honest image left. subst (λ bs. Leaves p.base bs image) (sym grown)
-          (leaves_grow p.base (all_of p) ((n, op ∷ []) ∷ []) image (is.since told honest image (subst (λ (j : D). d.left_since j p.start image) did.journal left)));
-      now = λ told honest image left. subst (λ bs. Leaves p.settled bs image) (sym grown)
-          (leaves_grow p.settled (all_of p) ((n, op ∷ []) ∷ []) image (is.now told honest image (subst (λ (j : D). d.may_leave j image) did.journal left)));
+      since = λ told honest image left. subst (λ bs. Leaves p.start.profile p.start.base bs image) (sym grown)
+          (leaves_grow p.start.profile p.start.base (all_of p) ((n, op ∷ []) ∷ []) image (is.since told honest image (subst (λ (j : D). d.left_since j p.start.moment image) did.journal left)));
+      now = λ told honest image left. subst (λ bs. Leaves p.start.profile p.settled bs image) (sym grown)
+          (leaves_grow p.start.profile p.settled (all_of p) ((n, op ∷ []) ∷ []) image (is.now told honest image (subst (λ (j : D). d.may_leave j image) did.journal left)));
       rests = λ told fine. rests_put d old new n op p (p.waiting ++ (n, op ∷ []) ∷ []) did (is.rests told fine);
     }
 
@@ -119,24 +125,24 @@ at_put d old new session n op p did numbered is =
 -- ---- the tail's group was closed
 
 -- the images of all moments since the opening, over one more call
-since_on : {D : Type 0} (d : Ghosts D) (old new : D) (p : Place) (all : Batches) → p.start ≤ d.moment old → IsFront p.base p.settled
+since_on : {D : Type 0} (d : Ghosts D) (old new : D) (p : Place) (all : Batches) → p.start.moment ≤ d.moment old → IsFront p.start.base p.settled
     → Elapses (d.moment old) (d.moment new) (d.left_since old) (d.left_since new)
-    → ((image : Image) → d.left_since old p.start image → Leaves p.base all image)
-    → ((image : Image) → d.left_since new (d.moment old) image → Leaves p.settled all image)
-    → (image : Image) → d.left_since new p.start image → Leaves p.base all image
-since_on d old new p all began grown time past during image left = elim (time.nothing_else p.start image began left) [
+    → ((image : Image) → d.left_since old p.start.moment image → Leaves p.start.profile p.start.base all image)
+    → ((image : Image) → d.left_since new (d.moment old) image → Leaves p.start.profile p.settled all image)
+    → (image : Image) → d.left_since new p.start.moment image → Leaves p.start.profile p.start.base all image
+since_on d old new p all began grown time past during image left = elim (time.nothing_else p.start.moment image began left) [
   | inl before ↦ past image before
-  | inr now ↦ leaves_lower p.base p.settled all image grown (during image now)
+  | inr now ↦ leaves_lower p.start.profile p.start.base p.settled all image grown (during image now)
 ]
 
 all_same : (p : Place) → all_of (all_settled p) ≡ all_of p
 all_same p = append-nil (all_of p)
 
 pub at_synced : {D : Type 0} (d : Ghosts D) (old new : State D) (p : Place) → new.session ≡ old.session → new.stopped ≡ old.stopped → new.last ≡ old.last → new.current ≡ old.current → p.stopped ≡ false
-    → log_tail new.log ≡ [] → Elapses (d.moment old.journal) (d.moment new.journal) (d.left_since old.journal) (d.left_since new.journal)
+    → log_tail new.log ≡ [] → Elapses (d.moment old.journal) (d.moment new.journal) (d.left_since old.journal) (d.left_since new.journal) → d.faults old.journal ≤ d.faults new.journal
     → (IsTrue d.tells → HasClosed d old.journal new.journal old.log new.log)
     → IsAt d old p → IsAt d new (all_settled p)
-at_synced {D} d old new p session stopped last current fine tail time call is =
+at_synced {D} d old new p session stopped last current fine tail time later call is =
     let all = all_same p in
     let rests : (told : IsTrue d.tells) → Rests d new.journal new.log new.session (all_settled p) = λ told.
     subst (λ (s : ℕ). Rests d new.journal new.log s (all_settled p)) (sym session)
@@ -144,32 +150,41 @@ at_synced {D} d old new p session stopped last current fine tail time call is =
     let ordered : are_in_order (all_of (all_settled p)) ≡ true = ap are_in_order all ∙ is.ordered in
     record {
       began = omega (arith, is.began, time.later);
-      grown = front_trans p.base p.settled (all_of p) is.grown (front_more p.settled p.waiting);
+      counted = omega (arith, is.counted, later);
+      grown = front_trans p.start.base p.settled (all_of p) is.grown (front_more p.settled p.waiting);
       ordered = ordered;
       last = last ∙ is.last ∙ sym (ap last_number all);
       current = current ∙ is.current ∙ sym (ap (λ bs. map_at bs (last_number bs)) all);
       stopped = stopped ∙ is.stopped;
+      halted = λ over. absurd (cc);
       waits = λ go. record { tail = tail; each = tt };
-      since = λ told honest image left. subst (λ bs. Leaves p.base bs image) (sym all)
+      since = λ told honest image left. subst (λ bs. Leaves p.start.profile p.start.base bs image) (sym all)
           (since_on d old.journal new.journal p (all_of p) is.began is.grown time (is.since told honest)
           (λ at now. close_leaves d old.journal new.journal old.log old.session p at (is.rests told fine) (is.waits fine) is.ordered honest (call told).images now) image left);
       now = λ told honest image left. rests_leaves d new.journal new.log new.session (all_settled p) image (rests told) ordered honest left;
       rests = λ told go. rests told;
     }
 
+-- a count that rose since has risen from an earlier one
+rose_from : (first before now : ℕ) → first ≤ before → Rose before now → Rose first now
+rose_from first before now le rose = omega (arith, le, rose)
+
 -- the journal failed while the group was closed
 pub at_halted : {D : Type 0} (d : Ghosts D) (old new : State D) (p : Place) → new.stopped ≡ true → new.last ≡ old.last → new.current ≡ old.current
     → Elapses (d.moment old.journal) (d.moment new.journal) (d.left_since old.journal) (d.left_since new.journal)
     → (IsTrue d.tells → (image : Image) → d.may_leave new.journal image → d.left_since new.journal (d.moment old.journal) image)
-    → (IsTrue d.tells → IsTrue p.honest → (image : Image) → d.left_since new.journal (d.moment old.journal) image → Leaves p.settled (all_of p) image)
+    → (IsTrue d.tells → IsTrue p.start.honest → (image : Image) → d.left_since new.journal (d.moment old.journal) image → Leaves p.start.profile p.settled (all_of p) image)
+    → Rose (d.faults old.journal) (d.faults new.journal) → d.faults old.journal ≤ d.faults new.journal
     → IsAt d old p → IsAt d new (halted p)
-at_halted d old new p stopped last current time counts during is = record {
+at_halted d old new p stopped last current time counts during rose later is = record {
   began = omega (arith, is.began, time.later);
+  counted = omega (arith, is.counted, later);
   grown = is.grown;
   ordered = is.ordered;
   last = last ∙ is.last;
   current = current ∙ is.current;
   stopped = stopped;
+  halted = λ over. rose_from p.start.faults (d.faults old.journal) (d.faults new.journal) is.counted rose;
   waits = λ fine. absurd (cc);
   since = λ told honest. since_on d old.journal new.journal p (all_of p) is.began is.grown time (is.since told honest) (during told honest);
   now = λ told honest image left. during told honest image (counts told image left);
@@ -177,9 +192,9 @@ at_halted d old new p stopped last current time counts during is = record {
 }
 
 -- while the group is closed a crash leaves the settled batches or all
-pub during_close : {D : Type 0} (d : Ghosts D) (old : State D) (new : D) (p : Place) → p.stopped ≡ false → IsAt d old p → IsTrue d.tells → IsTrue p.honest
+pub during_close : {D : Type 0} (d : Ghosts D) (old : State D) (new : D) (p : Place) → p.stopped ≡ false → IsAt d old p → IsTrue d.tells → IsTrue p.start.honest
     → ClosesAny d old.journal new old.log
-    → (image : Image) → d.left_since new (d.moment old.journal) image → Leaves p.settled (all_of p) image
+    → (image : Image) → d.left_since new (d.moment old.journal) image → Leaves p.start.profile p.settled (all_of p) image
 during_close d old new p fine is told honest any image left = close_leaves d old.journal new old.log old.session p image (is.rests told fine) (is.waits fine) is.ordered honest any left
 
 -- ---- an opening
@@ -193,35 +208,45 @@ pub record HasOpened {J : Type 0} (new : State J) (opening : ℕ) (batches : Bat
   pub stopped : new.stopped ≡ false
   pub tail : log_tail new.log ≡ []
 
-leaves_all : (batches : Batches) (image : Image) → Stands batches image → Leaves batches (batches ++ []) image
-leaves_all batches image stands = record { batches = batches; enough = front_refl batches; within = front_more batches []; stands = stands }
+leaves_all : (profile : Profile) (batches : Batches) (image : Image) → Stands profile batches image → Leaves profile batches (batches ++ []) image
+leaves_all profile batches image stands = record { batches = batches; enough = front_refl batches; within = front_more batches []; stands = stands }
+
+-- while the next log was created, and before, a crash left the base
+pub begun_leaves : {D : Type 0} (d : Ghosts D) (mid new : D) (start : Start) (k : ℕ) (header : Header) (logs : List Held)
+    → k ≡ suc (length logs) → header.profile ≡ start.profile → HasRead d mid start logs → IsTrue d.tells → IsTrue start.honest
+    → Elapses (d.moment mid) (d.moment new) (d.left_since mid) (d.left_since new)
+    → Follows (In (Log k) (Creates (Log k) header)) (d.may_leave mid) (d.left_since new (d.moment mid))
+    → (image : Image) → d.left_since new start.moment image → Stands start.profile start.base image
+begun_leaves d mid new start k header logs at own has told sure time images image left = elim (time.nothing_else start.moment image has.began left) [
+  | inl before ↦ has.past told sure image before
+  | inr now ↦ create_leaves d mid new start k header logs image at own (has.quiet told) sure images now
+]
 
 -- after an opening the state stands at its beginning
-pub at_opened : {D : Type 0} (d : Ghosts D) (mid : D) (new : State D) (start : ℕ) (honest : Bool) (k opening : ℕ) (header : Header) (logs : List Held) (batches : Batches)
-    → k ≡ suc (length logs) → header.session ≡ opening → start ≤ d.moment mid → HasOpened new opening batches
-    → Elapses (d.moment mid) (d.moment new.journal) (d.left_since mid) (d.left_since new.journal)
-    → (IsTrue d.tells → Quiet d mid honest logs batches) → (IsTrue d.tells → HasCreated d mid new.journal k header new.log)
-    → (IsTrue d.tells → IsTrue honest → (image : Image) → d.left_since mid start image → Stands batches image)
-    → IsAt d new (opened start honest batches)
-at_opened {D} d mid new start honest k opening header logs batches at owned began did time quiet call past =
-    let p = opened start honest batches in
-    let all : all_of p ≡ batches = append-nil batches in
+pub at_opened : {D : Type 0} (d : Ghosts D) (mid : D) (new : State D) (start : Start) (k opening : ℕ) (header : Header) (logs : List Held)
+    → k ≡ suc (length logs) → header.profile ≡ start.profile → header.session ≡ opening → HasOpened new opening start.base
+    → Elapses (d.moment mid) (d.moment new.journal) (d.left_since mid) (d.left_since new.journal) → d.faults mid ≤ d.faults new.journal
+    → HasRead d mid start logs → (IsTrue d.tells → HasCreated d mid new.journal k header new.log)
+    → IsAt d new (opened start)
+at_opened {D} d mid new start k opening header logs at own owned did time later has call =
+    let p = opened start in
+    let all : all_of p ≡ start.base = append-nil start.base in
     let ordered : are_in_order (all_of p) ≡ true = ap are_in_order all ∙ did.ordered in
     let rests : (told : IsTrue d.tells) → Rests d new.journal new.log new.session p = λ told.
     subst (λ (s : ℕ). Rests d new.journal new.log s p) (sym did.session)
-    (create_rests d mid new.journal honest k start opening header new.log logs batches at owned (quiet told) (call told)) in
+    (create_rests d mid new.journal start k opening header new.log logs at own owned (has.quiet told) (call told)) in
     record {
-      began = omega (arith, began, time.later);
-      grown = front_refl batches;
+      began = omega (arith, has.began, time.later);
+      counted = omega (arith, has.counted, later);
+      grown = front_refl start.base;
       ordered = ordered;
       last = did.last ∙ sym (ap last_number all);
       current = did.current ∙ sym (ap (λ bs. map_at bs (last_number bs)) all);
       stopped = did.stopped;
+      halted = λ over. absurd (cc);
       waits = λ fine. record { tail = did.tail; each = tt };
-      since = λ told sure image left. leaves_all batches image (elim (time.nothing_else start image began left) [
-        | inl before ↦ past told sure image before
-        | inr now ↦ create_leaves d mid new.journal honest k header logs batches image at (quiet told) sure (call told).images now
-      ]);
+      since = λ told sure image left. leaves_all start.profile start.base image
+          (begun_leaves d mid new.journal start k header logs at own has told sure time (call told).images image left);
       now = λ told sure image left. rests_leaves d new.journal new.log new.session p image (rests told) ordered sure left;
       rests = λ told fine. rests told;
     }

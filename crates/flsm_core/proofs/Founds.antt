@@ -15,6 +15,7 @@ use Rattle.record_log.specs.Records.{body_of, bodies_of, views}
 use Rattle.flsm_core.specs.declared.found.Found.{Found}
 use Rattle.flsm_core.specs.Logs.{Held, flat, HoldsLogs, BeginsLogs, AreRecords, IsBatchIn, Spells, SpellsAll, Reads, greatest_session}
 use Rattle.flsm_core.specs.Opening.{IsReplayOf, IsFound, CantGoOn, IsUnreadable}
+use Rattle.flsm_core.proofs.Held.{of_push}
 use Rattle.flsm_core.proofs.Orders.{front_in_order}
 use Rattle.flsm_core.proofs.Spelled.{spells_next}
 use Rattle.flsm_core.proofs.Replays.{OneBatch, same_records}
@@ -35,11 +36,6 @@ greatest_push : (logs : List Held) (log : Held) → greatest_session (logs ++ lo
 greatest_push [] log = omega arith
 greatest_push (x ∷ logs) log = ap (max x.header.session) (greatest_push logs log) ∙ omega arith
 
-all_push : (profile : Profile) (logs : List Held) (log : Held) → AllByRecursion (λ (l : Held). l.header.profile ≡ profile) logs → log.header.profile ≡ profile
-    → AllByRecursion (λ (l : Held). l.header.profile ≡ profile) (logs ++ log ∷ [])
-all_push profile [] log all is = (is, tt)
-all_push profile (x ∷ logs) log all is = (all.0, all_push profile logs log all.1 is)
-
 pub found_more : (profile : Profile) (old new : Found) (logs : List Held) (batches own : Batches) (log : Held) → IsFound profile old logs batches
     → log.header.profile ≡ profile → Spells log own → IsReplayOf new.replay (batches ++ own) → new.greatest ≡ max old.greatest log.header.session → new.logs ≡ old.logs + 1
     → IsFound profile new (logs ++ log ∷ []) (batches ++ own)
@@ -48,7 +44,7 @@ found_more profile old new logs batches own log is same spells replay greatest c
   replay = replay;
   greatest = greatest ∙ ap (λ n. max n log.header.session) is.greatest ∙ sym (greatest_push logs log);
   count = omega (arith, count, is.count, length-append logs (log ∷ []));
-  same = all_push profile logs log is.same same;
+  same = of_push profile logs log is.same same;
 }
 
 pub begins_more : (n k : ℕ) (logs : List Held) (log : Held) (image : Image) → n + length logs ≡ k → BeginsLogs n logs image → IsLog (Log k) log.header log.groups (image (Log k)) → BeginsLogs n (logs ++ log ∷ []) image
@@ -129,8 +125,8 @@ pub record SameReading (a b : List Held) (x y : Batches) : Type 0 where
   pub batches : x ≡ y
 
 -- an image is read in one way
-pub one_reading : Finished → OneLog → OneBatch → (image : Image) (a b : List Held) (x y : Batches) → Reads image a x → Reads image b y → SameReading a b x y
-one_reading fin one batch image a b x y ra rb =
+pub one_reading : Finished → OneLog → OneBatch → (profile other : Profile) (image : Image) (a b : List Held) (x y : Batches) → Reads profile image a x → Reads other image b y → SameReading a b x y
+one_reading fin one batch profile other image a b x y ra rb =
     let g = goes fin one 1 a b image (begun 1 a ra.holds) rb.holds in
     let none : g.more ≡ [] = ends (1 + length a) g.more (finish 1 (1 + length a) a ra.holds refl) g.holds in
     let same : b ≡ a = g.is ∙ ap (λ m. a ++ m) none ∙ append-nil a in
@@ -153,7 +149,7 @@ one_reading fin one batch image a b x y ra rb =
 -- the next log is damaged
 pub unreadable_log : Finished → OneLog → Undamaged → (k at : ℕ) (logs : List Held) (image : Image) (bytes : List ℕ) → 1 + length logs ≡ k → BeginsLogs 1 logs image
     → image (Log k) ≡ Some bytes → IsDamaged (Log k) bytes at → IsUnreadable image
-unreadable_log fin one un k at logs image bytes size begins found damaged all batches reads =
+unreadable_log fin one un k at logs image bytes size begins found damaged profile all batches reads =
     let g = goes fin one 1 logs all image begins reads.holds in
     refused g.more (subst (λ m. HoldsLogs m g.more image) size g.holds)
   where
@@ -168,7 +164,7 @@ unreadable_log fin one un k at logs image bytes size begins found damaged all ba
 -- the records of the next log can't go on
 pub unreadable_records : Finished → OneLog → OneBatch → (k : ℕ) (logs : List Held) (batches : Batches) (log : Held) (image : Image) → 1 + length logs ≡ k → BeginsLogs 1 logs image
     → SpellsAll logs batches → IsLog (Log k) log.header log.groups (image (Log k)) → CantGoOn log.header.session batches (flat log.groups) → IsUnreadable image
-unreadable_records fin one batch k logs batches log image size begins spelled here cant all base reads =
+unreadable_records fin one batch k logs batches log image size begins spelled here cant profile all base reads =
     let g = goes fin one 1 logs all image begins reads.holds in
     let c = cut logs g.more base (subst (λ l. SpellsAll l base) g.is reads.spelled) in
     refused g.more c.fronts c.others (subst (λ m. HoldsLogs m g.more image) size g.holds) (spells_one batch logs c.fronts batches c.spells_first spelled) c.spells_second

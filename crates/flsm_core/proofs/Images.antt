@@ -1,6 +1,7 @@
 -- What a crash leaves of the logs, in the calls on them.
-use Rattle.std.proofs.Common.{◌≡◌, ◌≢◌, ◌⊎◌, ℕ, suc, ◌<◌, Bool, true, IsTrue, List, [], ◌∷◌, ◌++◌, map, length, Option, None, sym, ap, ◌∙◌, subst, arith, inl, inr, length-append}
+use Rattle.std.proofs.Common.{◌≡◌, ◌≢◌, ◌⊎◌, ℕ, suc, ◌<◌, Bool, true, IsTrue, List, [], ◌∷◌, ◌++◌, map, length, Option, None, refl, sym, ap, ◌∙◌, subst, arith, inl, inr, length-append}
 use Rattle.std.proofs.lemmas.Bool.{cases_order}
+use Rattle.peb_base.specs.declared.profile.Profile.{Profile}
 use Rattle.peb_base.specs.Batches.{Batches, are_in_order}
 use Rattle.disk_model.specs.declared.journal_file.JournalFile.{JournalFile}
 use Rattle.disk_model.specs.declared.journal_file.JournalFile.TheVariants.{Log}
@@ -14,13 +15,13 @@ use Rattle.record_log.specs.State.{log_file, log_tail}
 use Rattle.record_log.specs.Ready.{IsReady, IsBeforeOrAfter}
 use Rattle.disk_model.specs.declared.journal.Journal.{Ghosts}
 use Rattle.std.specs.List.{AllByRecursion}
-use Rattle.flsm_core.specs.Logs.{Held, IsBatchIn, HoldsLogs, SpellsAll, Stands, record_of}
+use Rattle.flsm_core.specs.Logs.{Held, AreOf, IsBatchIn, HoldsLogs, SpellsAll, Stands, record_of}
 use Rattle.flsm_core.specs.Opening.{Quiet}
-use Rattle.flsm_core.specs.Place.{Place, all_of, all_settled, opened}
+use Rattle.flsm_core.specs.Place.{Place, Start, all_of, all_settled, opened}
 use Rattle.flsm_core.specs.Standing.{Leaves, Waits, Rests}
 use Rattle.flsm_core.proofs.Orders.{front_in_order, front_refl, front_more}
 use Rattle.flsm_core.proofs.Spelled.{closed, fresh, spells_group, spells_one_more}
-use Rattle.flsm_core.proofs.Held.{logs_differ, below, above, holds_same, holds_changed, holds_next, holds_begun, holds_end}
+use Rattle.flsm_core.proofs.Held.{of_push, of_last, logs_differ, below, above, holds_same, holds_changed, holds_next, holds_begun, holds_end}
 
 cases_eq : (m n : ℕ) → (m ≡ n) ⊎ (m ≢ n)
 cases_eq m n = elim (cases_order m n) [ inl same ↦ inl same | inr more ↦ elim more [ inl less ↦ inr (below m n less) | inr greater ↦ inr (above m n greater) ] ]
@@ -34,11 +35,11 @@ abbrev pub AgreeBut : ℕ → Image → Image → Type 0
 AgreeBut k a b = (m : ℕ) → 0 < m → m ≢ k → a (Log m) ≡ b (Log m)
 
 -- the logs stand for these batches
-pub stands_of : (batches : Batches) (logs : List Held) (image : Image) → HoldsLogs 1 logs image → SpellsAll logs batches → are_in_order batches ≡ true
-    → ((m : ℕ) → suc (length logs) < m → image (Log m) ≡ None) → Stands batches image
-stands_of batches logs image holds spells ordered none = record {
+pub stands_of : (profile : Profile) (batches : Batches) (logs : List Held) (image : Image) → HoldsLogs 1 logs image → AreOf profile logs → SpellsAll logs batches → are_in_order batches ≡ true
+    → ((m : ℕ) → suc (length logs) < m → image (Log m) ≡ None) → Stands profile batches image
+stands_of profile batches logs image holds same spells ordered none = record {
   logs = logs;
-  reads = record { holds = holds; spelled = spells; ordered = ordered };
+  reads = record { holds = holds; same = same; spelled = spells; ordered = ordered };
   none_above = none;
 }
 
@@ -66,8 +67,8 @@ ClosesAny d old new log = (header : Header) (groups : List (List (List ℕ))) (b
 
 -- while the group is closed, a crash leaves the settled batches or all of them
 pub close_leaves : {D : Type 0} (d : Ghosts D) (old new : D) (log : LogFile) (session : ℕ) (p : Place) (image : Image)
-    → Rests d old log session p → Waits log session p → are_in_order (all_of p) ≡ true → IsTrue p.honest → ClosesAny d old new log
-    → d.left_since new (d.moment old) image → Leaves p.settled (all_of p) image
+    → Rests d old log session p → Waits log session p → are_in_order (all_of p) ≡ true → IsTrue p.start.honest → ClosesAny d old new log
+    → d.left_since new (d.moment old) image → Leaves p.start.profile p.settled (all_of p) image
 close_leaves d old new log session p image rests waits ordered honest any left =
     let k : ℕ = suc (length rests.logs) in
     let bodies = map record_of p.waiting in
@@ -86,14 +87,15 @@ close_leaves d old new log session p image rests waits ordered honest any left =
         batches = p.settled;
         enough = front_refl p.settled;
         within = front_more p.settled p.waiting;
-        stands = stands_of p.settled (rests.logs ++ current ∷ []) image (after current before) rests.spelled (front_in_order p.settled p.waiting ordered)
+        stands = stands_of p.start.profile p.settled (rests.logs ++ current ∷ []) image (after current before) rests.same rests.spelled (front_in_order p.settled p.waiting ordered)
             (none (suc (length (rests.logs ++ current ∷ []))) (size current));
       }
       | inr made ↦ record {
         batches = all_of p;
         enough = front_more p.settled p.waiting;
         within = front_refl (all_of p);
-        stands = stands_of (all_of p) (rests.logs ++ closed current p.waiting ∷ []) image (after (closed current p.waiting) made)
+        stands = stands_of p.start.profile (all_of p) (rests.logs ++ closed current p.waiting ∷ []) image (after (closed current p.waiting) made)
+            (of_last p.start.profile rests.logs current (closed current p.waiting) refl rests.same)
             (spells_group rests.logs current p.settled p.waiting (subst (λ (s : ℕ). AllByRecursion (IsBatchIn s) p.waiting) (sym rests.owned) waits.each) rests.spelled) ordered
             (none (suc (length (rests.logs ++ closed current p.waiting ∷ []))) (size (closed current p.waiting)));
       }
@@ -141,6 +143,7 @@ close_rests d old new log log' session p rests waits call =
       logs = rests.logs;
       current = closed current p.waiting;
       holds = λ sure. holds_changed 1 k rests.logs current (closed current p.waiting) (d.seen old) (d.seen new) (omega arith) (λ m le. same m (omega (arith, le))) made (rests.holds sure);
+      same = of_last p.start.profile rests.logs current (closed current p.waiting) refl rests.same;
       spelled = spells_group rests.logs current p.settled p.waiting (subst (λ (s : ℕ). AllByRecursion (IsBatchIn s) p.waiting) (sym rests.owned) waits.each) rests.spelled;
       none_above = λ sure m lt. same m (omega (arith, lt)) (above m k (omega (arith, lt))) ∙ rests.none_above sure m lt;
       file = file;
@@ -152,14 +155,14 @@ close_rests d old new log log' session p rests waits call =
 
 -- where nothing is under way, a crash leaves the settled batches
 pub rests_leaves : {D : Type 0} (d : Ghosts D) (journal : D) (log : LogFile) (session : ℕ) (p : Place) (image : Image)
-    → Rests d journal log session p → are_in_order (all_of p) ≡ true → IsTrue p.honest → d.may_leave journal image → Leaves p.settled (all_of p) image
+    → Rests d journal log session p → are_in_order (all_of p) ≡ true → IsTrue p.start.honest → d.may_leave journal image → Leaves p.start.profile p.settled (all_of p) image
 rests_leaves d journal log session p image rests ordered honest left =
     let same = rests.only honest image left in
     let logs = rests.logs ++ rests.current ∷ [] in record {
       batches = p.settled;
       enough = front_refl p.settled;
       within = front_more p.settled p.waiting;
-      stands = stands_of p.settled logs image (holds_same 1 logs (d.seen journal) image (λ m le. same m (omega (arith, le))) (rests.holds honest)) rests.spelled (front_in_order p.settled p.waiting ordered)
+      stands = stands_of p.start.profile p.settled logs image (holds_same 1 logs (d.seen journal) image (λ m le. same m (omega (arith, le))) (rests.holds honest)) rests.same rests.spelled (front_in_order p.settled p.waiting ordered)
           (λ m lt. same m (omega (arith, lt)) ∙ rests.none_above honest m (omega (arith, lt, length-append rests.logs (rests.current ∷ []))));
     }
 
@@ -175,38 +178,40 @@ pub record HasCreated {D : Type 0} (d : Ghosts D) (old new : D) (k : ℕ) (heade
   pub elsewhere : (other : JournalFile) → other ≢ Log k → d.seen new other ≡ d.seen old other
 
 -- while the next log is created, a crash leaves the batches
-pub create_leaves : {D : Type 0} (d : Ghosts D) (old new : D) (honest : Bool) (k : ℕ) (header : Header) (logs : List Held) (batches : Batches) (image : Image)
-    → k ≡ suc (length logs) → Quiet d old honest logs batches → IsTrue honest → Follows (In (Log k) (Creates (Log k) header)) (d.may_leave old) (d.left_since new (d.moment old))
-    → d.left_since new (d.moment old) image → Stands batches image
-create_leaves d old new honest k header logs batches image at quiet sure follows left =
+pub create_leaves : {D : Type 0} (d : Ghosts D) (old new : D) (start : Start) (k : ℕ) (header : Header) (logs : List Held) (image : Image)
+    → k ≡ suc (length logs) → header.profile ≡ start.profile → Quiet d old start logs → IsTrue start.honest → Follows (In (Log k) (Creates (Log k) header)) (d.may_leave old) (d.left_since new (d.moment old))
+    → d.left_since new (d.moment old) image → Stands start.profile start.base image
+create_leaves d old new start k header logs image at own quiet sure follows left =
     let step = stepped d old k (Creates (Log k) header) (d.left_since new (d.moment old)) (omega (arith, at)) (quiet.only sure) follows image left in
-    let begun : IsUnfinished (image (Log k)) → Stands batches image = λ unfinished.
-    stands_of batches logs image (holds_begun 1 k logs (d.seen old) image (omega (arith, at)) (λ m le. step.elsewhere m (omega (arith, le))) unfinished quiet.reads.holds) quiet.reads.spelled quiet.reads.ordered
+    let begun : IsUnfinished (image (Log k)) → Stands start.profile start.base image = λ unfinished.
+    stands_of start.profile start.base logs image (holds_begun 1 k logs (d.seen old) image (omega (arith, at)) (λ m le. step.elsewhere m (omega (arith, le))) unfinished quiet.reads.holds) quiet.reads.same quiet.reads.spelled quiet.reads.ordered
     (λ m lt. step.elsewhere m (omega (arith, lt)) (above m k (omega (arith, at, lt))) ∙ quiet.none_above sure m lt) in
     elim step.here [
       | inl stays ↦ begun (subst IsUnfinished (sym stays) (holds_end 1 k logs (d.seen old) (omega (arith, at)) quiet.reads.holds))
       | inr more ↦ elim more [
         | inl unfinished ↦ begun unfinished
-        | inr made ↦ stands_of batches (logs ++ fresh header ∷ []) image
+        | inr made ↦ stands_of start.profile start.base (logs ++ fresh header ∷ []) image
             (holds_next 1 k logs (fresh header) (d.seen old) image (omega (arith, at)) (λ m le. step.elsewhere m (omega (arith, le))) (quiet.none_above sure (suc k) (omega (arith, at))) made quiet.reads.holds)
-            (spells_one_more logs header batches quiet.reads.spelled) quiet.reads.ordered
+            (of_push start.profile logs (fresh header) quiet.reads.same own)
+            (spells_one_more logs header start.base quiet.reads.spelled) quiet.reads.ordered
             (λ m lt. let size = length-append logs (fresh header ∷ []) in
             step.elsewhere m (omega (arith, lt)) (above m k (omega (arith, at, lt, size))) ∙ quiet.none_above sure m (omega (arith, at, lt, size)))
       ]
     ]
 
 -- then the state is at rest
-pub create_rests : {D : Type 0} (d : Ghosts D) (old new : D) (honest : Bool) (k start session : ℕ) (header : Header) (log : LogFile) (logs : List Held) (batches : Batches)
-    → k ≡ suc (length logs) → header.session ≡ session → Quiet d old honest logs batches → HasCreated d old new k header log
-    → Rests d new log session (opened start honest batches)
-create_rests d old new honest k start session header log logs batches at owned quiet call =
+pub create_rests : {D : Type 0} (d : Ghosts D) (old new : D) (start : Start) (k session : ℕ) (header : Header) (log : LogFile) (logs : List Held)
+    → k ≡ suc (length logs) → header.profile ≡ start.profile → header.session ≡ session → Quiet d old start logs → HasCreated d old new k header log
+    → Rests d new log session (opened start)
+create_rests d old new start k session header log logs at own owned quiet call =
     let same : AgreeBut k (d.seen new) (d.seen old) = λ m is differ. call.elsewhere (Log m) (logs_differ m k differ) in
     let made : IsLog (Log k) header [] (d.seen new (Log k)) = subst (λ (f : JournalFile). IsLog f header [] (d.seen new f)) call.file call.ready.form in
     record {
       logs = logs;
       current = fresh header;
       holds = λ sure. holds_next 1 k logs (fresh header) (d.seen old) (d.seen new) (omega (arith, at)) (λ m le. same m (omega (arith, le))) (quiet.none_above sure (suc k) (omega (arith, at))) made quiet.reads.holds;
-      spelled = spells_one_more logs header batches quiet.reads.spelled;
+      same = of_push start.profile logs (fresh header) quiet.reads.same own;
+      spelled = spells_one_more logs header start.base quiet.reads.spelled;
       none_above = λ sure m lt. same m (omega (arith, lt)) (above m k (omega (arith, at, lt))) ∙ quiet.none_above sure m (omega (arith, lt));
       file = call.file ∙ ap Log at;
       owned = owned;

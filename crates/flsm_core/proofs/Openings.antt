@@ -5,7 +5,9 @@ use Rattle.std.proofs.lemmas.List.{append-nil}
 use Rattle.peb_base.specs.declared.profile.Profile.{Profile}
 use Rattle.peb_base.specs.Batches.{Batches}
 use Rattle.disk_model.specs.declared.journal_file.JournalFile.TheVariants.{Log}
-use Rattle.disk_model.specs.Images.{Image, Keeps}
+use Rattle.disk_model.specs.declared.journal_file.JournalFile.{JournalFile}
+use Rattle.disk_model.specs.Images.{Image, Keeps, In, Stays, Follows}
+use Rattle.disk_model.specs.Files.{same_file, same_true, same_self, decide}
 use Rattle.std.proofs.lemmas.Bool.{cases_lt}
 use Rattle.disk_model.specs.Moments.{elapses_on, elapses_none}
 use Rattle.record_log.specs.declared.header.Header.{Header}
@@ -19,9 +21,10 @@ use Rattle.flsm_core.specs.declared.open_fault.OpenFault.{OpenFault}
 use Rattle.flsm_core.specs.declared.open_fault.OpenFault.TheVariants as opens
 use Rattle.flsm_core.specs.declared.found.Found.{Found}
 use Rattle.disk_model.specs.declared.journal.Journal.{Ghosts}
-use Rattle.flsm_core.specs.Logs.{Held, flat, BeginsLogs, HoldsLogs, Reads, Stands}
-use Rattle.flsm_core.specs.Opening.{IsFound, CantGoOn, AddCause, OpenCause, HasWatched, AreKept, OpensOn, Quiet, fault_of}
-use Rattle.flsm_core.proofs.Founds.{OneLog, Undamaged, Finished, unreadable_log, unreadable_records, bodies_read, one_reading, SameReading}
+use Rattle.flsm_core.specs.Logs.{Held, flat, AreOf, BeginsLogs, HoldsLogs, Reads, ReadsAs, Stands}
+use Rattle.flsm_core.specs.Opening.{IsFound, CantGoOn, AddCause, OpenCause, HasReadLog, HasWatched, AreKept, OpensOn, Quiet, HasRead, fault_of}
+use Rattle.flsm_core.specs.Place.{Start, start_at}
+use Rattle.flsm_core.proofs.Founds.{OneLog, Undamaged, Finished, begins_more, unreadable_log, unreadable_records, bodies_read, one_reading, SameReading}
 use Rattle.flsm_core.proofs.Replays.{OneBatch}
 
 -- the next log wasn't read
@@ -33,6 +36,13 @@ open_refused fin one un rose tells seen profile number held logs.Fault size begi
 open_refused fin one un rose tells seen profile number held (logs.Damaged at) size begins cause damage =
     (number, refl, λ told. let d = damage told in unreadable_log fin one un number at held seen d.0 size (begins told) d.1 d.2)
 open_refused fin one un rose tells seen profile number held logs.Memory size begins cause damage = tt
+
+-- the next log is one of those that are read
+read_log : (number : ℕ) (held : List Held) (header : Header) (records : List Record) (seen : Image) (P : Header → Type 0) → 1 + length held ≡ number → BeginsLogs 1 held seen
+    → Holds (Log number) header (views records) (seen (Log number)) → P header → HasReadLog seen P
+read_log number held header records seen P size begins holds is =
+    let log : Held = record { header = header; groups = holds.groups } in
+    (held, log, begins_more 1 number held log seen size begins holds.log, is)
 
 -- the next log wasn't taken in
 pub add_refused : Finished → OneLog → OneBatch → (rose : Type 0) (tells : Bool) (seen : Image) (profile : Profile) (number : ℕ) (found : Found) (held : List Held) (batches : Batches)
@@ -49,9 +59,9 @@ add_refused fin one batch rose tells seen profile number found held batches head
       (subst (λ bodies. CantGoOn header.session batches bodies) (sym (bodies_read records h.groups h.given)) (cause.1 held batches is)),
 )
 add_refused fin one batch rose tells seen profile number found held batches header records (opens.Profile have asked) size begins is holds cause =
-    (cause.1, cause.2, λ told. let h = holds told in (number, header, h.groups, h.log, sym cause.0))
+    (cause.1, cause.2, λ told. read_log number held header records seen (λ h. h.profile ≡ have) size (begins told) (holds told) (sym cause.0))
 add_refused fin one batch rose tells seen profile number found held batches header records (opens.Limit kind n) size begins is holds cause =
-    (cause.0, cause.1, λ told. let h = holds told in (number, header, h.groups, h.log, cause.2))
+    (cause.0, cause.1, λ told. read_log number held header records seen (λ h. 8388607 ≤ h.session) size (begins told) (holds told) cause.2)
 add_refused fin one batch rose tells seen profile number found held batches header records opens.Memory size begins is holds cause = tt
 
 -- the log that was taken in
@@ -75,7 +85,7 @@ pub watched_none : {D : Type 0} (d : Ghosts D) (journal : D) → ((t : ℕ) (ima
 watched_none d journal counts only = record {
   seen = refl;
   time = elapses_none (d.moment journal) (d.left_since journal) (λ t image le left. counts t image le (only image left));
-  each = λ image left. (image, only image left, λ m. refl);
+  each = only;
 }
 
 pub watched_on : {D : Type 0} (d : Ghosts D) (old mid new : D) → ((image : Image) → d.may_leave mid image → d.left_since mid (d.moment old) image)
@@ -85,15 +95,14 @@ watched_on d old mid new counts one two = record {
   time = elapses_on one.time two.time;
   each = λ image left. elim (two.time.nothing_else (d.moment old) image one.time.later left) [
     | inl past ↦ one.each image past
-    | inr now ↦ let b = two.each image now in let a = one.each b.0 (counts b.0 b.1) in (a.0, a.1, λ m. b.2 m ∙ a.2 m)
+    | inr now ↦ one.each image (counts image (two.each image now))
   ];
 }
 
 pub kept_on : {D : Type 0} (d : Ghosts D) (old new : D) (n : ℕ) → ((image : Image) → d.may_leave new image → d.left_since new (d.moment old) image)
     → HasWatched d old new → AreKept d old n → AreKept d new n
 kept_on d old new n counts watched kept m some within image left =
-    let from = watched.each image (counts image left) in
-    from.2 m ∙ kept m some within from.0 from.1 ∙ ap (λ (i : Image). i (Log m)) (sym watched.seen)
+    kept m some within image (watched.each image (counts image left)) ∙ ap (λ (i : Image). i (Log m)) (sym watched.seen)
 
 pub kept_more : {D : Type 0} (d : Ghosts D) (old new : D) (n : ℕ) → HasWatched d old new → Keeps (Log (n + 1)) (d.seen old (Log (n + 1))) (d.may_leave new) → AreKept d new n → AreKept d new (n + 1)
 kept_more d old new n watched next kept m some within = elim (cases_lt n m) [
@@ -112,63 +121,83 @@ holds_upto n (log ∷ held) image new same holds = (
   holds_upto (suc n) held image new (λ m from to. same m (omega (arith, from)) (omega (arith, to))) holds.1,
 )
 
-pub stands_agree : (base : Batches) (image new : Image) → ((m : ℕ) → new (Log m) ≡ image (Log m)) → Stands base image → Stands base new
-stands_agree base image new same stands = record {
-  logs = stands.logs;
-  reads = record { holds = holds_upto 1 stands.logs image new (λ m from to. same m) stands.reads.holds; spelled = stands.reads.spelled; ordered = stands.reads.ordered };
-  none_above = λ m lt. same m ∙ stands.none_above m lt;
-}
+-- an image that was one of before is it: calls that only read or sync change no image
+pub watched_image : (file : JournalFile) (old new : Image) → In file Stays old new → new ≡ old
+watched_image file old new step =
+    let each : (other : JournalFile) → new other ≡ old other = λ other. elim (decide (same_file other file)) [
+      | inl is ↦ subst (λ (f : JournalFile). new f ≡ old f) (sym (same_true other file is)) step.here
+      | inr not ↦ step.elsewhere other (λ e. apart other file e not)
+    ] in
+    λ i other. each other i
+  where
+    apart : (other file : JournalFile) → other ≡ file → same_file other file ≡ false → ⊥
+    apart other file e not = let is : same_file other file ≡ true = subst (λ (f : JournalFile). same_file other f ≡ true) e (same_self other) in cc
 
--- what reads give stands for the base
-pub stands_read : (honest : Bool) (base : Batches) (seen : Image) (may_leave : Image → Type 0) → may_leave seen → OpensOn honest base seen may_leave → Stands base seen
-stands_read true base seen may_leave read on = on seen read
-stands_read false base seen may_leave read on = on
+-- images of before, where each has followed by a read or a sync
+pub watched_each : (file : JournalFile) (may since : Image → Type 0) → Follows (In file Stays) may since → (image : Image) → since image → may image
+watched_each file may since follows image left =
+    let from = follows image left in subst may (sym (watched_image file from.0 image from.2)) from.1
 
-each_stands : (honest : Bool) (base : Batches) (seen : Image) (may_leave : Image → Type 0) → IsTrue honest → OpensOn honest base seen may_leave → (image : Image) → may_leave image → Stands base image
-each_stands true base seen may_leave sure on = on
-each_stands false base seen may_leave sure on = absurd (cc)
+-- what reads give spells the base
+pub base_read : (profile : Profile) (honest : Bool) (base : Batches) (seen : Image) (may_leave : Image → Type 0) → may_leave seen → OpensOn profile honest base seen may_leave → ReadsAs profile base seen
+base_read profile true base seen may_leave read on = let stands = on seen read in (stands.logs, stands.reads)
+base_read profile false base seen may_leave read on = on
+
+pub each_stands : (profile : Profile) (honest : Bool) (base : Batches) (seen : Image) (may_leave : Image → Type 0) → IsTrue honest → OpensOn profile honest base seen may_leave → (image : Image) → may_leave image → Stands profile base image
+each_stands profile true base seen may_leave sure on = on
+each_stands profile false base seen may_leave sure on = absurd (cc)
 
 -- what the reading of the logs found
-pub record Read {D : Type 0} (d : Ghosts D) (old new : D) (held : List Held) (batches : Batches) : Type 0 where
-  pub reads : Reads (d.seen old) held batches
+pub record Read {D : Type 0} (d : Ghosts D) (old new : D) (profile : Profile) (held : List Held) (batches : Batches) : Type 0 where
+  pub reads : Reads profile (d.seen old) held batches
   pub watched : HasWatched d old new
   pub kept : AreKept d new (suc (length held))
   pub counts : (image : Image) → d.may_leave new image → d.left_since new (d.moment old) image
   pub read : d.may_leave old (d.seen old)
 
 -- it found the base
-pub same_base : Finished → OneLog → OneBatch → {D : Type 0} (d : Ghosts D) (old new : D) (held : List Held) (batches base : Batches) → Read d old new held batches → (stands : Stands base (d.seen old))
-    → SameReading held stands.logs batches base
-same_base fin one batch d old new held batches base found stands = one_reading fin one batch (d.seen old) held stands.logs batches base found.reads stands.reads
+pub same_base : Finished → OneLog → OneBatch → {D : Type 0} (d : Ghosts D) (old new : D) (profile : Profile) (held : List Held) (batches base : Batches) → Read d old new profile held batches
+    → (reads : ReadsAs profile base (d.seen old)) → SameReading held reads.0 batches base
+same_base fin one batch d old new profile held batches base found reads = one_reading fin one batch profile profile (d.seen old) held reads.0 batches base found.reads reads.1
 
-pub quiet_after : Finished → OneLog → OneBatch → {D : Type 0} (d : Ghosts D) (old new : D) (honest : Bool) (held : List Held) (batches base : Batches) → Read d old new held batches
-    → OpensOn honest base (d.seen old) (d.may_leave old) → Quiet d new honest held batches
-quiet_after fin one batch d old new honest held batches base found on =
-    let stands = stands_read honest base (d.seen old) (d.may_leave old) found.read on in
-    let same = same_base fin one batch d old new held batches base found stands in
+-- no log stands above the first absent one
+none_over : Finished → OneLog → OneBatch → {D : Type 0} (d : Ghosts D) (old new : D) (profile : Profile) (held : List Held) (batches base : Batches) → Read d old new profile held batches
+    → Stands profile base (d.seen old) → (m : ℕ) → suc (length held) < m → d.seen new (Log m) ≡ None
+none_over fin one batch d old new profile held batches base found stands m lt =
+    let same = same_base fin one batch d old new profile held batches base found (stands.logs, stands.reads) in
+    ap (λ (i : Image). i (Log m)) found.watched.seen ∙ stands.none_above m (subst (λ (l : List Held). suc (length l) < m) same.logs lt)
+
+pub quiet_after : Finished → OneLog → OneBatch → {D : Type 0} (d : Ghosts D) (old new : D) (profile : Profile) (honest : Bool) (held : List Held) (batches : Batches) → Read d old new profile held batches
+    → OpensOn profile honest batches (d.seen old) (d.may_leave old) → Quiet d new (start_at d old profile honest batches) held
+quiet_after fin one batch d old new profile honest held batches found on =
     let seen : d.seen new ≡ d.seen old = found.watched.seen in
-    let none : (m : ℕ) → suc (length held) < m → d.seen new (Log m) ≡ None = λ m lt.
-    ap (λ (i : Image). i (Log m)) seen ∙ stands.none_above m (subst (λ (l : List Held). suc (length l) < m) same.logs lt) in
+    let stands : IsTrue honest → (image : Image) → d.may_leave old image → Stands profile batches image = λ sure. each_stands profile honest batches (d.seen old) (d.may_leave old) sure on in
+    let none : IsTrue honest → (m : ℕ) → suc (length held) < m → d.seen new (Log m) ≡ None = λ sure. none_over fin one batch d old new profile held batches batches found (stands sure (d.seen old) found.read) in
     record {
-      reads = subst (λ (i : Image). Reads i held batches) (sym seen) found.reads;
-      none_above = λ sure. none;
+      reads = subst (λ (i : Image). Reads profile i held batches) (sym seen) found.reads;
+      none_above = none;
       only = λ sure image left m some. elim (cases_lt (suc (length held)) m) [
         | inl high ↦
-            let from = found.watched.each image (found.counts image left) in
-            let before = each_stands honest base (d.seen old) (d.may_leave old) sure on from.0 from.1 in
-            let holds : HoldsLogs 1 held from.0 = holds_upto 1 held (d.seen old) from.0
-            (λ k low to. sym (from.2 k) ∙ found.kept k low (omega (arith, to)) image left ∙ ap (λ (i : Image). i (Log k)) seen) found.reads.holds in
-            let again = one_reading fin one batch from.0 held before.logs batches base (record { holds = holds; spelled = found.reads.spelled; ordered = found.reads.ordered }) before.reads in
-            from.2 m ∙ before.none_above m (subst (λ (l : List Held). suc (length l) < m) again.logs high) ∙ sym (none m high)
+            let before = stands sure image (found.watched.each image (found.counts image left)) in
+            let holds : HoldsLogs 1 held image = holds_upto 1 held (d.seen old) image
+            (λ k low to. found.kept k low (omega (arith, to)) image left ∙ ap (λ (i : Image). i (Log k)) seen) found.reads.holds in
+            let again = one_reading fin one batch profile profile image held before.logs batches batches
+            (record { holds = holds; same = found.reads.same; spelled = found.reads.spelled; ordered = found.reads.ordered }) before.reads in
+            before.none_above m (subst (λ (l : List Held). suc (length l) < m) again.logs high) ∙ sym (none sure m high)
         | inr low ↦ found.kept m some low image left
       ];
     }
 
-pub past_stands : {D : Type 0} (d : Ghosts D) (old new : D) (honest : Bool) (held : List Held) (batches base : Batches) → Read d old new held batches → IsTrue honest
-    → OpensOn honest base (d.seen old) (d.may_leave old) → (image : Image) → d.left_since new (d.moment old) image → Stands base image
-past_stands d old new honest held batches base found sure on image left =
-    let from = found.watched.each image left in
-    stands_agree base from.0 image from.2 (each_stands honest base (d.seen old) (d.may_leave old) sure on from.0 from.1)
+-- after the reading of the logs the opening has read them all
+pub has_read : Finished → OneLog → OneBatch → {D : Type 0} (d : Ghosts D) (old new : D) (profile : Profile) (honest : Bool) (held : List Held) (batches : Batches)
+    → (IsTrue d.tells → Read d old new profile held batches) → HasWatched d old new → d.faults old ≤ d.faults new
+    → (IsTrue d.tells → OpensOn profile honest batches (d.seen old) (d.may_leave old)) → HasRead d new (start_at d old profile honest batches) held
+has_read fin one batch d old new profile honest held batches found watched later on = record {
+  began = watched.time.later;
+  counted = later;
+  quiet = λ told. quiet_after fin one batch d old new profile honest held batches (found told) (on told);
+  past = λ told sure image left. each_stands profile honest batches (d.seen old) (d.may_leave old) sure (on told) image (watched.each image left);
+}
 
 -- ---- facts on a result, weakened
 

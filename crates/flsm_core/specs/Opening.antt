@@ -1,5 +1,5 @@
 -- What an opening reads, and why it is refused.
-use Rattle.std.specs.Prelude.{◌≡◌, ◌≢◌, ℕ, suc, ◌<◌, ◌≤◌, None, Bool, true, false, IsTrue, List, ◌++◌, length}
+use Rattle.std.specs.Prelude.{◌≡◌, ◌≢◌, ℕ, suc, ◌<◌, ◌≤◌, None, Bool, true, false, IsTrue, List, [], ◌∷◌, ◌++◌, length}
 use Rattle.std.specs.List.{AllByRecursion}
 use Rattle.peb_base.specs.declared.file_name.FileName.TheVariants as names
 use Rattle.peb_base.specs.declared.limit_kind.LimitKind.TheVariants as kinds
@@ -19,29 +19,32 @@ use Rattle.flsm_core.specs.declared.replay_fault.ReplayFault.TheVariants as repl
 use Rattle.flsm_core.specs.declared.replay.Replay.{Replay}
 use Rattle.flsm_core.specs.declared.found.Found.{Found}
 use Rattle.disk_model.specs.declared.journal.Journal.{Ghosts}
-use Rattle.flsm_core.specs.Logs.{Held, AreRecords, SpellsAll, Reads, Stands, greatest_session}
+use Rattle.flsm_core.specs.Logs.{Held, AreOf, AreRecords, BeginsLogs, SpellsAll, Reads, ReadsAs, Stands, greatest_session}
+use Rattle.flsm_core.specs.Place.{Start}
 
--- what an opening rests on: each image that a crash may leave stands for the base, or at least what reads give does
-abbrev pub OpensOn : Bool → Batches → Image → (Image → Type 0) → Type 0
-OpensOn true base seen may_leave = (image : Image) → may_leave image → Stands base image
-OpensOn false base seen may_leave = Stands base seen
+-- what an opening rests on: each image that a crash may leave stands for the base, or at least the base is read
+abbrev pub OpensOn : Profile → Bool → Batches → Image → (Image → Type 0) → Type 0
+OpensOn profile true base seen may_leave = (image : Image) → may_leave image → Stands profile base image
+OpensOn profile false base seen may_leave = ReadsAs profile base seen
 
--- no batches are read of the image: some log isn't in its form
+-- no batches are read of the image in any profile: some log isn't in its form
 abbrev pub IsUnreadable : Image → Type 0
-IsUnreadable image = (logs : List Held) (batches : Batches) → Reads image logs batches → ⊥
+IsUnreadable image =
+    (profile : Profile) (logs : List Held) (batches : Batches) → Reads profile image logs batches → ⊥
 
--- the image has a log whose header is so
-abbrev pub HasLog : Image → (Header → Type 0) → Type 0
-HasLog image P = (n : ℕ) × (header : Header) × (groups : List (List (List ℕ))) × IsLog (Log n) header groups (image (Log n)) × P header
+-- one of the logs from 1 up to the first absent one has a header that is so
+abbrev pub HasReadLog : Image → (Header → Type 0) → Type 0
+HasReadLog image P =
+    (logs : List Held) × (log : Held) × BeginsLogs 1 (logs ++ log ∷ []) image × P log.header
 
 -- why an opening was refused, where the journal rose, and where it tells what it held
 abbrev pub OpenCause : Type 0 → Bool → Image → Profile → OpenFault → Type 0
 OpenCause rose tells seen profile opens.Journal = rose
 OpenCause rose tells seen profile (opens.Damaged file at) = (n : ℕ) × (file ≡ names.Log n) × (IsTrue tells → IsUnreadable seen)
 OpenCause rose tells seen profile (opens.Profile have asked) =
-    (asked ≡ profile) × (have ≢ profile) × (IsTrue tells → HasLog seen (λ header. header.profile ≡ have))
+    (asked ≡ profile) × (have ≢ profile) × (IsTrue tells → HasReadLog seen (λ header. header.profile ≡ have))
 OpenCause rose tells seen profile (opens.Limit kind n) =
-    (kind ≡ kinds.Openings) × (n ≡ 8388607) × (IsTrue tells → HasLog seen (λ header. 8388607 ≤ header.session))
+    (kind ≡ kinds.Openings) × (n ≡ 8388607) × (IsTrue tells → HasReadLog seen (λ header. 8388607 ≤ header.session))
 OpenCause rose tells seen profile opens.Memory = Unit {0}
 
 -- ---- the reading of logs, one after another
@@ -67,13 +70,13 @@ pub record IsFound (profile : Profile) (found : Found) (logs : List Held) (batch
   pub replay : IsReplayOf found.replay batches
   pub greatest : found.greatest ≡ greatest_session logs
   pub count : found.logs ≡ length logs
-  pub same : AllByRecursion (λ log. log.header.profile ≡ profile) logs
+  pub same : AreOf profile logs
 
--- only reads and syncs came between: what reads give is the same, and each image since then has the logs of one of before
+-- only reads and syncs came between: what reads give is the same, and each image since then is one of before
 pub record HasWatched {D : Type 0} (d : Ghosts D) (old new : D) : Type 0 where
   pub seen : d.seen new ≡ d.seen old
   pub time : Elapses (d.moment old) (d.moment new) (d.left_since old) (d.left_since new)
-  pub each : (image : Image) → d.left_since new (d.moment old) image → (before : Image) × d.may_leave old before × ((m : ℕ) → image (Log m) ≡ before (Log m))
+  pub each : (image : Image) → d.left_since new (d.moment old) image → d.may_leave old image
 
 -- a crash leaves the logs 1 to n as reads give them
 abbrev pub AreKept : {D : Type 0} → Ghosts D → D → ℕ → Type 0
@@ -88,10 +91,19 @@ AddCause profile number header P (opens.Limit kind n) = (kind ≡ kinds.Openings
 AddCause profile number header P opens.Memory = Unit {0}
 
 -- what was read of the logs, once they were synced: a crash leaves them so
-pub record Quiet {D : Type 0} (d : Ghosts D) (journal : D) (honest : Bool) (logs : List Held) (batches : Batches) : Type 0 where
-  pub reads : Reads (d.seen journal) logs batches
-  pub none_above : IsTrue honest → (m : ℕ) → suc (length logs) < m → d.seen journal (Log m) ≡ None
-  pub only : IsTrue honest → (image : Image) → d.may_leave journal image → (m : ℕ) → 0 < m → image (Log m) ≡ d.seen journal (Log m)
+pub record Quiet {D : Type 0} (d : Ghosts D) (journal : D) (start : Start) (logs : List Held) : Type 0 where
+  pub reads : Reads start.profile (d.seen journal) logs start.base
+  pub none_above : IsTrue start.honest → (m : ℕ) → suc (length logs) < m → d.seen journal (Log m) ≡ None
+  pub only : IsTrue start.honest → (image : Image) → d.may_leave journal image
+      → (m : ℕ) → 0 < m → image (Log m) ≡ d.seen journal (Log m)
+
+-- the logs were read in an opening that began so, and each crash since then left its base
+pub record HasRead {D : Type 0} (d : Ghosts D) (journal : D) (start : Start) (logs : List Held) : Type 0 where
+  pub began : start.moment ≤ d.moment journal
+  pub counted : start.faults ≤ d.faults journal
+  pub quiet : IsTrue d.tells → Quiet d journal start logs
+  pub past : IsTrue d.tells → IsTrue start.honest → (image : Image)
+      → d.left_since journal start.moment image → Stands start.profile start.base image
 
 -- what the fault of a log means to an opening
 abbrev pub fault_of : ℕ → LogFault → OpenFault

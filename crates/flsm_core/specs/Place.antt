@@ -4,6 +4,8 @@ use Rattle.peb_base.specs.declared.op.Op.{Op}
 use Rattle.peb_base.specs.declared.change.Change.TheVariants.{Put}
 use Rattle.peb_base.specs.Keys.{Bytes}
 use Rattle.peb_base.specs.declared.limit_kind.LimitKind.{LimitKind}
+use Rattle.peb_base.specs.declared.profile.Profile.{Profile}
+use Rattle.disk_model.specs.declared.journal.Journal.{Ghosts}
 use Rattle.peb_base.specs.declared.limit_kind.LimitKind.TheVariants as kinds
 use Rattle.peb_base.specs.Batches.{Batches, last_number}
 use Rattle.record_log.specs.Groups.{records_bytes}
@@ -13,14 +15,34 @@ use Rattle.flsm_core.specs.declared.commit_fault.CommitFault.TheVariants as comm
 use Rattle.flsm_core.specs.declared.sync_fault.SyncFault.{SyncFault}
 use Rattle.flsm_core.specs.declared.sync_fault.SyncFault.TheVariants as syncs
 
+-- what an opening begins with
+pub record Start : Type 0 where
+  -- the journal's moment
+  pub moment : ℕ
+  -- how often the journal had failed
+  pub faults : ℕ
+  -- the profile that is asked for
+  pub profile : Profile
+  -- each image of that moment stands for the base
+  pub honest : Bool
+  -- the batches that are opened
+  pub base : Batches
+
+-- an opening in this profile and on this base begins with the journal as it is
+abbrev pub start_at : {D : Type 0} → Ghosts D → D → Profile → Bool → Batches → Start
+start_at d journal profile honest base =
+    record {
+      moment = d.moment journal;
+      faults = d.faults journal;
+      profile = profile;
+      honest = honest;
+      base = base;
+    }
+
 -- a store since its opening
 pub record Place : Type 0 where
-  -- the journal's moment when the opening began
-  pub start : ℕ
-  -- each image of that moment stood for the base
-  pub honest : Bool
-  -- the batches that were opened
-  pub base : Batches
+  -- what the opening began with
+  pub start : Start
   -- the batches that every crash leaves
   pub settled : Batches
   -- the batches after them, which a crash may lose
@@ -33,8 +55,8 @@ abbrev pub all_of : Place → Batches
 all_of p = p.settled ++ p.waiting
 
 -- the place right after an opening
-abbrev pub opened : ℕ → Bool → Batches → Place
-opened start honest base = record { start = start; honest = honest; base = base; settled = base; waiting = []; stopped = false }
+abbrev pub opened : Start → Place
+opened start = record { start = start; settled = start.base; waiting = []; stopped = false }
 
 -- the number that the next operation gets: the next one of its session
 abbrev pub next_number : ℕ → Batches → ℕ
@@ -66,20 +88,27 @@ IsOutOfNumbers session batches = next_number session batches ≡ session * 2 ^ 4
 abbrev pub IsTailFull : ℕ → Place → List Op → Type 0
 IsTailFull session p ops = 2 ^ 31 < length (records_bytes (map record_of p.waiting)) + 4 + length (record_of (next_number session (all_of p), ops))
 
--- the kind's stated number would be passed
+-- no limit is passed
+pub record IsWithinLimits (session : ℕ) (p : Place) (ops : List Op) : Type 0 where
+  pub numbered : IsOutOfNumbers session (all_of p) → ⊥
+  pub fits : IsTailFull session p ops → ⊥
+
+-- the kind's stated number is the first one that would be passed: numbers come before the tail
 abbrev pub PassesLimit : ℕ → Place → List Op → LimitKind → ℕ → Type 0
 PassesLimit session p ops kind n =
     ((kind ≡ kinds.Operations) × (n ≡ 2 ^ 40 - 1) × IsOutOfNumbers session (all_of p))
-    ⊎ ((kind ≡ kinds.Tail) × (n ≡ 2 ^ 31) × IsTailFull session p ops)
+    ⊎ ((kind ≡ kinds.Tail) × (n ≡ 2 ^ 31) × (IsOutOfNumbers session (all_of p) → ⊥) × IsTailFull session p ops)
 
 -- where a put leads
 abbrev pub after_put : ℕ → Place → List Op → Result ℕ CommitFault → Place
 after_put session p ops (Ok n) = with_batch session p ops
 after_put session p ops (Err fault) = p
 
--- a put may answer so: its number is the next one; it is refused exactly where the journal has failed before, or where a limit is passed
+-- a put may answer so: its number is the next one; it is refused exactly where the journal has failed before, or
+-- where a limit is passed
 abbrev pub Puts : ℕ → Place → List Op → Result ℕ CommitFault → Type 0
-Puts session p ops (Ok n) = (p.stopped ≡ false) × (n ≡ next_number session (all_of p))
+Puts session p ops (Ok n) =
+    (p.stopped ≡ false) × IsWithinLimits session p ops × (n ≡ next_number session (all_of p))
 Puts session p ops (Err commits.Stopped) = p.stopped ≡ true
 Puts session p ops (Err (commits.Limit kind n)) = (p.stopped ≡ false) × PassesLimit session p ops kind n
 Puts session p ops (Err commits.Memory) = p.stopped ≡ false

@@ -3,9 +3,9 @@ ghost use Rattle.peb_base.specs.Batches.{Batches, last_number};
 ghost use Rattle.disk_model.specs.Images.{Image, Follows, In, Stays, Elapses, Keeps, HasCause, Rose};
 ghost use Rattle.disk_model.specs.declared.journal_file.JournalFile.TheVariants.{Log};
 ghost use Rattle.record_log.specs.Log.{IsUnfinished};
-ghost use Rattle.flsm_core.specs.Logs.{Held, HoldsLogs, BeginsLogs, Stands, greatest_session};
+ghost use Rattle.flsm_core.specs.Logs.{Held, HoldsLogs, BeginsLogs, ReadsAs, Stands, greatest_session};
 ghost use Rattle.flsm_core.specs.Opening.{fault_of, IsFound, HasWatched, AreKept, OpenCause};
-ghost use Rattle.flsm_core.specs.Place.{Place, all_of, opened};
+ghost use Rattle.flsm_core.specs.Place.{Place, Start, all_of, opened, start_at};
 
 use crate::found::Found;
 use crate::open_fault::OpenFault;
@@ -84,7 +84,9 @@ fn read_logs<J: Journal>(
 }
 
 impl<J: Journal> State<J> {
-    ghost use Rattle.flsm_core.specs.Opening.{OpensOn, Quiet};
+    ghost use Rattle.std.specs.Prelude.{◌≢◌, MatchResult};
+    ghost use Rattle.flsm_core.specs.Opening.{OpensOn, HasRead};
+    ghost use Rattle.flsm_core.specs.declared.open_fault.OpenFault.TheVariants as opens;
     ghost use Rattle.flsm_core.specs.Standing.{IsAt};
     ghost use Rattle.flsm_core.specs.State.{state_session, state_journal};
 
@@ -95,17 +97,21 @@ impl<J: Journal> State<J> {
         profile: Profile,
         found: Found,
     ) -> Result<State<J>, (OpenFault, J)>
-        ensures stands { IfOk result (λ state. (start : ℕ) (honest : Bool) (logs : List Held) (batches : Batches) → start ≤ J.moment journal → IsFound profile found logs batches
-            → (IsTrue J.tells → Quiet J.Journal journal honest logs batches)
-            → (IsTrue J.tells → IsTrue honest → (image : Image) → J.left_since journal start image → Stands batches image)
-            → IsAt J.Journal state (opened start honest batches)) }
+        // what it gives
+        ensures stands { IfOk result (λ state. (start : Start) (logs : List Held) → start.profile ≡ profile
+            → IsFound profile found logs start.base → HasRead J.Journal journal start logs
+            → IsAt J.Journal state (opened start)) }
         ensures session { IfOk result (λ state. state_session state ≡ found.greatest + 1) }
-        ensures later { IfOk result (λ state. J.faults journal ≤ J.faults (state_journal state)) }
-        ensures cause { IfErr result (λ e. OpenCause (Rose (J.faults journal) (J.faults e.1)) J.tells (J.seen journal) profile e.0) }
-        ensures later_err { IfErr result (λ e. J.faults journal ≤ J.faults e.1) }
-        ensures images { IfErr result (λ e. IsTrue J.tells → (logs : List Held) (batches : Batches) → IsFound profile found logs batches
-            → Quiet J.Journal journal true logs batches
-            → (image : Image) → J.may_leave e.1 image → Stands batches image) }
+        // when it fails
+        ensures cause { IfErr result (λ e. OpenCause (Rose (J.faults journal) (J.faults e.1))
+            J.tells (J.seen journal) profile e.0) }
+        // what it leaves
+        ensures untouched { IfErr result (λ e. e.0 ≢ opens.Journal → e.1 ≡ journal) }
+        ensures images { IfErr result (λ e. IsTrue J.tells → (start : Start) (logs : List Held) → start.profile ≡ profile
+            → IsTrue start.honest → IsFound profile found logs start.base → HasRead J.Journal journal start logs
+            → (image : Image) → J.left_since e.1 start.moment image → Stands start.profile start.base image) }
+        ensures never_falls { MatchResult result (λ state. J.faults journal ≤ J.faults (state_journal state))
+            (λ e. J.faults journal ≤ J.faults e.1) }
     {
         let session = found.greatest + 1;
         let number = found.logs + 1;
@@ -129,19 +135,31 @@ impl<J: Journal> State<J> {
     /// session with the next log. Each log is synced before it is read, also the absent one.
     ///
     /// The session is 1 + the greatest in a header. `Journal` comes only where the journal failed; `Damaged` only where a log isn't in
-    /// its form, or its batches don't go on after those before; `Profile` only where a log has another profile than the one asked for;
-    /// `Limit` only where no session is left. A refusal hands the journal back, and every crash leaves the batches that were there.
+    /// its form, or its batches don't go on after those before; `Profile` only where a log that is read has another profile than the
+    /// one asked for; `Limit` only where no session is left above that of a log that is read. A refusal hands the journal back, and every
+    /// crash during it and after it leaves the batches that were there; where the journal didn't fail, it was only read and synced.
     pub fn open(alloc: Global, journal: J, profile: Profile) -> Result<State<J>, (OpenFault, J)>
-        ensures stands { IfOk result (λ state. IsTrue J.tells → (honest : Bool) (base : Batches) → OpensOn honest base (J.seen journal) (J.may_leave journal)
-            → IsAt J.Journal state (opened (J.moment journal) honest base)) }
-        ensures some { IfOk result (λ state. (base : Batches) × IsAt J.Journal state (opened (J.moment journal) false base)) }
-        ensures session { IfOk result (λ state. IsTrue J.tells → (logs : List Held) × HoldsLogs 1 logs (J.seen journal) × (state_session state ≡ suc (greatest_session logs))) }
-        ensures fresh { IfOk result (λ state. IsTrue J.tells → (base : Batches) → Stands base (J.seen journal) → last_number base < state_session state * 2 ^ 40) }
-        ensures later { IfOk result (λ state. J.faults journal ≤ J.faults (state_journal state)) }
-        ensures cause { IfErr result (λ e. OpenCause (Rose (J.faults journal) (J.faults e.1)) J.tells (J.seen journal) profile e.0) }
-        ensures later_err { IfErr result (λ e. J.faults journal ≤ J.faults e.1) }
-        ensures images { IfErr result (λ e. IsTrue J.tells → (base : Batches) → OpensOn true base (J.seen journal) (J.may_leave journal)
-            → (image : Image) → J.may_leave e.1 image → Stands base image) }
+        // what it gives
+        ensures stands { IfOk result (λ state. IsTrue J.tells → (honest : Bool) (base : Batches)
+            → OpensOn profile honest base (J.seen journal) (J.may_leave journal)
+            → IsAt J.Journal state (opened (start_at J.Journal journal profile honest base))) }
+        ensures somewhere { IfOk result (λ state. (base : Batches)
+            × (IsTrue J.tells → ReadsAs profile base (J.seen journal))
+            × IsAt J.Journal state (opened (start_at J.Journal journal profile false base))) }
+        ensures session { IfOk result (λ state. IsTrue J.tells → (logs : List Held)
+            × HoldsLogs 1 logs (J.seen journal) × (state_session state ≡ suc (greatest_session logs))) }
+        ensures fresh { IfOk result (λ state. IsTrue J.tells → (base : Batches)
+            → ReadsAs profile base (J.seen journal) → last_number base < state_session state * 2 ^ 40) }
+        // when it fails
+        ensures cause { IfErr result (λ e. OpenCause (Rose (J.faults journal) (J.faults e.1))
+            J.tells (J.seen journal) profile e.0) }
+        // what it leaves
+        ensures untouched { IfErr result (λ e. e.0 ≢ opens.Journal → HasWatched J.Journal journal e.1) }
+        ensures images { IfErr result (λ e. IsTrue J.tells → (base : Batches)
+            → OpensOn profile true base (J.seen journal) (J.may_leave journal)
+            → (image : Image) → J.left_since e.1 (J.moment journal) image → Stands profile base image) }
+        ensures never_falls { MatchResult result (λ state. J.faults journal ≤ J.faults (state_journal state))
+            (λ e. J.faults journal ≤ J.faults e.1) }
     {
         one_reading();
         one_batch();

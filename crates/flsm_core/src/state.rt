@@ -41,6 +41,7 @@ fn next_number(session: u32, last: Number) -> Option<Number>
     ensures next { IfSome result (λ n. n ≡ max last (session * 2 ^ 40) + 1) }
     ensures here { IfSome result (λ n. session_of n ≡ session) }
     ensures counted { IfSome result (λ n. 1 ≤ count_of n) }
+    ensures below { IfSome result (λ n. n < session * 2 ^ 40 + 2 ^ 40) }
     ensures none { IfNone result (max last (session * 2 ^ 40) + 1 ≡ session * 2 ^ 40 + 2 ^ 40) }
 {
     if last.session() < session {
@@ -87,8 +88,10 @@ impl<J: Journal> State<J> {
 
     /// Gives the journal up. What waits is lost.
     pub fn close(self) -> J
-        ensures images { IsTrue J.tells → (p : Place) → IsAt J.Journal self p → IsTrue p.honest
-            → (image : Image) → J.may_leave result image → Leaves p.settled (all_of p) image }
+        ensures images { IsTrue J.tells → (p : Place) → IsAt J.Journal self p → IsTrue p.start.honest
+            → (image : Image) → J.may_leave result image → Leaves p.start.profile p.settled (all_of p) image }
+        ensures ever { IsTrue J.tells → (p : Place) → IsAt J.Journal self p → IsTrue p.start.honest → (image : Image)
+            → J.left_since result p.start.moment image → Leaves p.start.profile p.start.base (all_of p) image }
         ensures journal { result ≡ state_journal self }
     {
         let State {

@@ -4,9 +4,10 @@ use Rattle.record_log.specs.declared.record.Record.{Record}
 use Rattle.record_log.specs.Records.{bodies_of}
 use Rattle.flsm_core.specs.Logs.{Held}
 use Rattle.flsm_core.specs.Opening.{IsFound, CantGoOn, AddCause, OpenCause}
+use Rattle.disk_model.specs.declared.journal_file.JournalFile.TheVariants.{Log}
 use Rattle.disk_model.specs.Images.{Rose}
 use Rattle.flsm_core.proofs.Founds.{begins_more}
-use Rattle.flsm_core.proofs.Openings.{open_refused, add_refused, taken}
+use Rattle.flsm_core.proofs.Openings.{open_refused, add_refused, taken, watched_each}
 use Rattle.flsm_core.proofs.opening.next_log.Goals as goal
 
 pub returns-in-Err-clause-cause : goal.returns-in-Err-clause-cause
@@ -33,3 +34,17 @@ returns-clause-cause g c = λ logs batches is begins.
     (c.args.found.logs + 1) c.args.found logs batches c.in-Ok-Some.log.0 c.in-Ok-Some.log.1.items c.in-Err-add_log.fault size begins is found
     (subst (λ (rs : List Record). AddCause c.args.profile (c.args.found.logs + 1) c.in-Ok-Some.log.0 ((held : List Held) (bs : Batches) → IsFound c.args.profile c.args.found held bs → CantGoOn c.in-Ok-Some.log.0.session bs (bodies_of rs)) c.in-Err-add_log.fault)
     c.deref.ensures.value c.in-Err-add_log.ensures.cause)
+
+pub returns-in-Ok-clause-watched : goal.returns-in-Ok-clause-watched
+returns-in-Ok-clause-watched g c = record {
+  seen = c.open.ensures.seen;
+  time = c.open.ensures.time;
+  each = watched_each (Log (c.args.found.logs + 1)) _ _ c.open.ensures.any_moment;
+}
+
+pub returns-clause-watched : goal.returns-clause-watched
+returns-clause-watched g c = record {
+  seen = c.open.ensures.seen;
+  time = c.open.ensures.time;
+  each = watched_each (Log (c.args.found.logs + 1)) _ _ c.open.ensures.any_moment;
+}

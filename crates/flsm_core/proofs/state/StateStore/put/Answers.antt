@@ -45,4 +45,31 @@ returns-in-Err-Full-clause-answers g c = λ p is.
     let over : 2 ^ 31 < length (log_tail c.args.self.now.log) + 4 + c.len.result = c.in-Err-Full.ensures.full.0 (ap Err c.in-Err-Full.field-0-is) in
     let tail = ap length (is.waits fine).tail in
     let size = ap length body in
-    (fine, inr (refl, refl, omega (arith, over, tail, size, c.len.ensures)))
+    (
+      fine,
+      inr (
+        refl,
+        refl,
+        λ out. omega (arith, out, numbered, c.in-Some.ensures.below),
+        omega (arith, over, tail, size, c.len.ensures),
+      ),
+    )
+
+pub returns-clause-answers : goal.returns-clause-answers
+returns-clause-answers g c = λ p is.
+    let fine : p.stopped ≡ false = sym is.stopped ∙ c.if-self.false in
+    let ops : List Op = put_op c.args.key c.args.value ∷ [] in
+    let numbered : c.in-Some.number ≡ next_number c.args.self.now.session (all_of p) =
+    c.in-Some.ensures.next ∙ ap (λ (n : ℕ). max n (c.args.self.now.session * 2 ^ 40) + 1) is.last in
+    let body : c.in-Ok-write_batch.body.items ≡ record_of (next_number c.args.self.now.session (all_of p), ops) =
+    c.in-Ok-write_batch.ensures.bytes ∙ ap (batch_bytes c.in-Some.number) c.in-Ok.ensures ∙ sym (record_of-is (c.in-Some.number, ops)) ∙ ap (λ n. record_of (n, ops)) numbered in
+    let tail = ap length (is.waits fine).tail in
+    let size = ap length body in
+    (
+      fine,
+      record {
+        numbered = λ out. omega (arith, out, numbered, c.in-Some.ensures.below);
+        fits = λ over. let full = c.reserve.ensures.full.1 (omega (arith, over, tail, size, c.len.ensures)) in let ok = c.in-Ok-reserve.is in cc;
+      },
+      numbered,
+    )
