@@ -92,25 +92,3 @@ with_port reads tally = record tally { reads = capped (tally.reads + reads) }
 -- with the bytes and the numbers of one maker more
 abbrev pub with_maker : ℕ → Gone → Tally → Tally
 with_maker taken gone tally = record tally { taken = capped (tally.taken + taken); gone = joined tally.gone gone }
-
--- what devices tell of tables stays: the files that are there, the tables that a crash may leave, and what was
--- done; and ports over them read as before
-pub record TablesStay (files0 files : TableFiles) (kept0 kept : Sealed) (tally0 tally : Tally) (steady0 steady : Type 0) : Type 0 where
-  pub there : files ≡ files0
-  pub left : kept ≡ kept0
-  pub done : tally ≡ tally0
-  pub steady_still : steady0 → steady
-
--- no table is to come back, none is begun, and nothing was done
-pub record TablesRest (files : TableFiles) (kept : Sealed) (tally : Tally) : Type 0 where
-  pub all_there : (n : ℕ) → kept n ≡ files.sealed n
-  pub none_unsealed : (n : ℕ) → files.is_unsealed n ≡ false
-  pub nothing_done : tally ≡ no_tally
-
--- a maker that did nothing yet
-pub record IsNewMaker (faults taken : ℕ) (gone : Gone) (begun : Option ℕ) (sealed : Sealed) : Type 0 where
-  pub no_faults : faults ≡ 0
-  pub no_bytes : taken ≡ 0
-  pub none_gone_yet : gone ≡ none_gone
-  pub none_begun : begun ≡ None
-  pub none_sealed : (n : ℕ) → sealed n ≡ None

@@ -1,9 +1,11 @@
-ghost use Rattle.std.specs.Prelude.{◌≡◌, ◌⊎◌, ◌≤◌, ◌+◌, ℕ, Some, IsTrue, IfOk, OnOk, OnErr, MatchResult};
+ghost use Rattle.std.specs.Prelude.{◌≡◌, ◌⊎◌, ◌≤◌, ◌+◌, ℕ, Some, IsTrue, IfOk, OnOk, OnErr};
 ghost use Rattle.std.specs.Option.{option_or};
 ghost use Rattle.disk_model.specs.Directories.{Directories, after_choice, after_opening};
 ghost use Rattle.disk_model.specs.Images.{Image, HasCause};
-ghost use Rattle.disk_model.specs.Tables.{Sealed, TableFiles, Tally, TablesStay, IsNewMaker, IsTableImage, StaysOrGoes, with_port, with_maker, capped};
-ghost use Rattle.disk_model.specs.Told.{TellsTheSame};
+ghost use Rattle.disk_model.specs.Tables.{StaysOrGoes, with_maker, capped};
+ghost use Rattle.disk_model.specs.Told.{JournalTold, TablesTold, TellsTheSame, FilesStay, TablesStay, told_by, after_port, MayLeaveTables};
+ghost use Rattle.disk_model.specs.Ports.{IsNewPort};
+ghost use Rattle.disk_model.specs.Makers.{IsNewMaker};
 
 use crate::{Failed, Journal, Maker, Port, TableHandle};
 
@@ -21,139 +23,89 @@ pub trait Devices {
 
     type M: Maker<File = Self::F> + Send;
 
-    /// The bytes of each file of the journal.
-    ghost seen: { Self → Image };
+    /// What it tells of the journal.
+    ghost journal_told: { Self → JournalTold };
 
-    /// What a crash at this moment may leave of the journal.
-    ghost may_leave: { Self → Image → Type 0 };
-
-    /// The journal's moment.
-    ghost moment: { Self → ℕ };
-
-    /// What a crash at some moment since that one might have left of the journal.
-    ghost left_since: { Self → ℕ → Image → Type 0 };
-
-    /// How often a call of the journal has failed.
-    ghost journal_faults: { Self → ℕ };
-
-    /// While it holds, the journal's `size` and `read` never fail. It need never hold.
-    ghost steady: { Self → Type 0 };
-
-    /// How often `set` or `journal` has failed.
-    ghost faults: { Self → ℕ };
-
-    /// The table files that are there.
-    ghost table_files: { Self → TableFiles };
-
-    /// The tables that were sealed. A crash leaves each of them, but perhaps those that were retired or removed.
-    ghost kept: { Self → Sealed };
-
-    /// What the ports and makers that were handed back did.
-    ghost tally: { Self → Tally };
-
-    /// How often `port` or `maker` has failed, or a call of a port or a maker that was handed back.
-    ghost table_faults: { Self → ℕ };
-
-    /// While it holds, the ports' `read` never fails. It need never hold.
-    ghost ports_steady: { Self → Type 0 };
+    /// What it tells of tables. Their count of faults says how often `port` or `maker` has failed, or a call of a
+    /// port or a maker that was handed back.
+    ghost tables_told: { Self → TablesTold };
 
     /// Which directory was chosen last, of which one the journal was handed out last, and how often each was done.
     ghost directories: { Self → Directories };
+
+    /// How often `set` or `journal` has failed.
+    ghost faults: { Self → ℕ };
 
     /// Chooses the directory by its name. It changes nothing that is told of files.
     ///
     /// `Failed` comes only where the count of faults rose, and the directory is then as before.
     fn set(&mut self, dir: &str) -> Result<(), Failed>
+        // what it leaves
         ensures chosen { OnOk result (directories self.new ≡ after_choice dir.now (directories self.old)) }
         ensures unchosen { OnErr result (directories self.new ≡ directories self.old) }
-        ensures told { TellsTheSame (seen self.old) (seen self.new) (may_leave self.old) (may_leave self.new)
-            (moment self.old) (moment self.new) (left_since self.old) (left_since self.new)
-            (journal_faults self.old) (journal_faults self.new) }
-        ensures steady { steady self.old → steady self.new }
-        ensures tables { TablesStay (table_files self.old) (table_files self.new) (kept self.old) (kept self.new)
-            (tally self.old) (tally self.new) (ports_steady self.old) (ports_steady self.new) }
-        ensures table_faults { table_faults self.new ≡ table_faults self.old }
-        ensures cause { HasCause (faults self.old) (faults self.new) result };
+        // when it fails
+        ensures cause { HasCause (faults self.old) (faults self.new) result }
+        // what stays
+        ensures told { TellsTheSame (journal_told self.old) (journal_told self.new) }
+        ensures tables { TablesStay (tables_told self.old) (tables_told self.new) };
 
-    /// Hands out the journal of the directory, which tells what the devices told of it. What they tell of it while it is out is
-    /// open; what they tell of tables stays.
+    /// Hands out the journal of the directory, which tells what the devices told of it. What they tell of it while
+    /// it is out is open; what they tell of tables stays.
     ///
     /// `Failed` comes only where the count of faults rose, and changes nothing that is told.
     fn journal(&mut self) -> Result<Self::J, Failed>
+        // what it gives
+        ensures journal { IfOk result (λ journal. TellsTheSame (journal_told self.old) (told_by Self.J.Journal journal)) }
+        // what it leaves
         ensures opened { OnOk result (directories self.new ≡ after_opening (directories self.old)) }
         ensures unopened { OnErr result (directories self.new ≡ directories self.old) }
-        ensures journal { IfOk result (λ journal.
-            TellsTheSame (seen self.old) (Self.J.seen journal) (may_leave self.old) (Self.J.may_leave journal)
-            (moment self.old) (Self.J.moment journal) (left_since self.old) (Self.J.left_since journal)
-            (journal_faults self.old) (Self.J.faults journal)) }
-        ensures told { OnErr result (
-            TellsTheSame (seen self.old) (seen self.new) (may_leave self.old) (may_leave self.new)
-            (moment self.old) (moment self.new) (left_since self.old) (left_since self.new)
-            (journal_faults self.old) (journal_faults self.new)) }
-        ensures steady { steady self.old → MatchResult result (λ journal. Self.J.steady journal) (λ _. steady self.new) }
-        ensures tables { TablesStay (table_files self.old) (table_files self.new) (kept self.old) (kept self.new)
-            (tally self.old) (tally self.new) (ports_steady self.old) (ports_steady self.new) }
-        ensures table_faults { table_faults self.new ≡ table_faults self.old }
-        ensures cause { HasCause (faults self.old) (faults self.new) result };
+        // when it fails
+        ensures cause { HasCause (faults self.old) (faults self.new) result }
+        // what stays
+        ensures told { OnErr result (TellsTheSame (journal_told self.old) (journal_told self.new)) }
+        ensures tables { TablesStay (tables_told self.old) (tables_told self.new) };
 
     /// Hands out a port over the table files that the devices tell, with counts of 0. It changes nothing that is
     /// told of files.
     ///
     /// `Failed` comes only where the count of faults of tables rose.
     fn port(&mut self) -> Result<Self::P, Failed>
+        // what it gives
+        ensures port { IfOk result (λ port. IsNewPort Self.P.Port (tables_told self.old) port) }
+        // when it fails
+        ensures cause { HasCause (tables_told self.old).faults (tables_told self.new).faults result }
+        // what stays
+        ensures files { FilesStay (tables_told self.old) (tables_told self.new) }
+        ensures told { TellsTheSame (journal_told self.old) (journal_told self.new) }
         ensures directories { directories self.new ≡ directories self.old }
-        ensures files { IfOk result (λ port. Self.P.table_files port ≡ table_files self.old) }
-        ensures unused { IfOk result (λ port. (Self.P.faults port ≡ 0) × (Self.P.reads port ≡ 0)) }
-        ensures port_steady { ports_steady self.old → IfOk result (λ port. Self.P.steady port) }
-        ensures told { TellsTheSame (seen self.old) (seen self.new) (may_leave self.old) (may_leave self.new)
-            (moment self.old) (moment self.new) (left_since self.old) (left_since self.new)
-            (journal_faults self.old) (journal_faults self.new) }
-        ensures steady { steady self.old → steady self.new }
-        ensures tables { TablesStay (table_files self.old) (table_files self.new) (kept self.old) (kept self.new)
-            (tally self.old) (tally self.new) (ports_steady self.old) (ports_steady self.new) }
-        ensures faults { faults self.new ≡ faults self.old }
-        ensures cause { HasCause (table_faults self.old) (table_faults self.new) result };
+        ensures faults { faults self.new ≡ faults self.old };
 
     /// Hands out a maker with counts of 0, which made nothing yet. It changes nothing that is told of files.
     ///
     /// `Failed` comes only where the count of faults of tables rose.
     fn maker(&mut self) -> Result<Self::M, Failed>
+        // what it gives
+        ensures maker { IfOk result (λ maker. IsNewMaker Self.M.Maker maker) }
+        // when it fails
+        ensures cause { HasCause (tables_told self.old).faults (tables_told self.new).faults result }
+        // what stays
+        ensures files { FilesStay (tables_told self.old) (tables_told self.new) }
+        ensures told { TellsTheSame (journal_told self.old) (journal_told self.new) }
         ensures directories { directories self.new ≡ directories self.old }
-        ensures new { IfOk result (λ maker. IsNewMaker (Self.M.faults maker) (Self.M.taken maker)
-            (Self.M.gone maker) (Self.M.begun maker) (Self.M.sealed maker)) }
-        ensures told { TellsTheSame (seen self.old) (seen self.new) (may_leave self.old) (may_leave self.new)
-            (moment self.old) (moment self.new) (left_since self.old) (left_since self.new)
-            (journal_faults self.old) (journal_faults self.new) }
-        ensures steady { steady self.old → steady self.new }
-        ensures tables { TablesStay (table_files self.old) (table_files self.new) (kept self.old) (kept self.new)
-            (tally self.old) (tally self.new) (ports_steady self.old) (ports_steady self.new) }
-        ensures faults { faults self.new ≡ faults self.old }
-        ensures cause { HasCause (table_faults self.old) (table_faults self.new) result };
+        ensures faults { faults self.new ≡ faults self.old };
 
     /// Takes a journal back. The devices then tell of it what it told itself.
     fn back(&mut self, journal: Self::J)
+        ensures told { TellsTheSame (told_by Self.J.Journal journal) (journal_told self.new) }
+        ensures tables { TablesStay (tables_told self.old) (tables_told self.new) }
         ensures directories { directories self.new ≡ directories self.old }
-        ensures told { TellsTheSame (Self.J.seen journal) (seen self.new) (Self.J.may_leave journal) (may_leave self.new)
-            (Self.J.moment journal) (moment self.new) (Self.J.left_since journal) (left_since self.new)
-            (Self.J.faults journal) (journal_faults self.new) }
-        ensures steady { Self.J.steady journal → steady self.new }
-        ensures tables { TablesStay (table_files self.old) (table_files self.new) (kept self.old) (kept self.new)
-            (tally self.old) (tally self.new) (ports_steady self.old) (ports_steady self.new) }
-        ensures table_faults { table_faults self.new ≡ table_faults self.old }
         ensures faults { faults self.new ≡ faults self.old };
 
     /// Takes a port back, and adds its counts.
     fn back_port(&mut self, port: Self::P)
+        ensures counted { TablesStay (after_port Self.P.Port port (tables_told self.old)) (tables_told self.new) }
+        ensures told { TellsTheSame (journal_told self.old) (journal_told self.new) }
         ensures directories { directories self.new ≡ directories self.old }
-        ensures reads { tally self.new ≡ with_port (Self.P.reads port) (tally self.old) }
-        ensures table_faults { table_faults self.new ≡ capped (table_faults self.old + Self.P.faults port) }
-        ensures files { table_files self.new ≡ table_files self.old }
-        ensures kept { kept self.new ≡ kept self.old }
-        ensures ports_steady { ports_steady self.old → ports_steady self.new }
-        ensures told { TellsTheSame (seen self.old) (seen self.new) (may_leave self.old) (may_leave self.new)
-            (moment self.old) (moment self.new) (left_since self.old) (left_since self.new)
-            (journal_faults self.old) (journal_faults self.new) }
-        ensures steady { steady self.old → steady self.new }
         ensures faults { faults self.new ≡ faults self.old };
 
     /// Takes a maker back, adds its counts and its numbers, and tells from then on what it sealed.
@@ -161,33 +113,36 @@ pub trait Devices {
     /// A table that no maker which was handed back has retired or removed is there. One that was may be there
     /// still, or not.
     fn back_maker(&mut self, maker: Self::M)
+        // what it leaves
+        ensures kept { IsTrue Self.F.tells → (n : ℕ) →
+            (tables_told self.new).kept n ≡ option_or (Self.M.sealed maker n) ((tables_told self.old).kept n) }
+        ensures sealed { IsTrue Self.F.tells → (n : ℕ) → StaysOrGoes (tables_told self.new).tally.gone n
+            (option_or (Self.M.sealed maker n) ((tables_told self.old).files.sealed n))
+            ((tables_told self.new).files.sealed n) }
+        ensures unsealed { (n : ℕ) → IsTrue ((tables_told self.new).files.is_unsealed n) →
+            IsTrue ((tables_told self.old).files.is_unsealed n) ⊎ (Self.M.begun maker ≡ Some n) }
+        ensures done { (tables_told self.new).tally
+            ≡ with_maker (Self.M.taken maker) (Self.M.gone maker) (tables_told self.old).tally }
+        ensures counted { (tables_told self.new).faults ≡ capped ((tables_told self.old).faults + Self.M.faults maker) }
+        ensures ports_steady { (tables_told self.old).steady → (tables_told self.new).steady }
+        // what stays
+        ensures told { TellsTheSame (journal_told self.old) (journal_told self.new) }
         ensures directories { directories self.new ≡ directories self.old }
-        ensures done { tally self.new ≡ with_maker (Self.M.taken maker) (Self.M.gone maker) (tally self.old) }
-        ensures table_faults { table_faults self.new ≡ capped (table_faults self.old + Self.M.faults maker) }
-        ensures kept { IsTrue Self.F.tells → (n : ℕ) → kept self.new n ≡ option_or (Self.M.sealed maker n) (kept self.old n) }
-        ensures sealed { IsTrue Self.F.tells → (n : ℕ) → StaysOrGoes (tally self.new).gone n
-            (option_or (Self.M.sealed maker n) ((table_files self.old).sealed n)) ((table_files self.new).sealed n) }
-        ensures unsealed { (n : ℕ) → IsTrue ((table_files self.new).is_unsealed n) →
-            IsTrue ((table_files self.old).is_unsealed n) ⊎ (Self.M.begun maker ≡ Some n) }
-        ensures ports_steady { ports_steady self.old → ports_steady self.new }
-        ensures told { TellsTheSame (seen self.old) (seen self.new) (may_leave self.old) (may_leave self.new)
-            (moment self.old) (moment self.new) (left_since self.old) (left_since self.new)
-            (journal_faults self.old) (journal_faults self.new) }
-        ensures steady { steady self.old → steady self.new }
         ensures faults { faults self.new ≡ faults self.old };
 
     /// What a crash may leave at this moment is what it might have left since an earlier one.
-    ghost counts_now: { (devices : Self) (t : ℕ) (image : Image) → t ≤ moment devices →
-        may_leave devices image → left_since devices t image };
+    ghost counts_now: { (devices : Self) (t : ℕ) (image : Image) → t ≤ (journal_told devices).moment →
+        (journal_told devices).may_leave image → (journal_told devices).left_since t image };
 
     /// Since this moment there is no other.
     ghost only_now: { (devices : Self) (image : Image) →
-        left_since devices (moment devices) image → may_leave devices image };
+        (journal_told devices).left_since (journal_told devices).moment image → (journal_told devices).may_leave image };
 
     /// What is told of the files is one of the images.
-    ghost read_is_left: { (devices : Self) → IsTrue Self.J.tells → may_leave devices (seen devices) };
+    ghost read_is_left: { (devices : Self) → IsTrue Self.J.tells →
+        (journal_told devices).may_leave (journal_told devices).seen };
 
-    /// The sealed tables that are there are what a crash may leave.
+    /// The table files that are there are what a crash may leave.
     ghost there_is_left: { (devices : Self) → IsTrue Self.F.tells →
-        IsTableImage (kept devices) (tally devices).gone (table_files devices).sealed };
+        MayLeaveTables (tables_told devices) (tables_told devices).files };
 }

@@ -1,4 +1,4 @@
-ghost use Rattle.std.specs.Prelude.{◌≡◌, ◌⊎◌, ◌+◌, ◌++◌, [], ℕ, List, Option, None, Some, IsTrue, IsSome, IfOk, OnOk, OnErr, length};
+ghost use Rattle.std.specs.Prelude.{◌≡◌, ◌⊎◌, ◌+◌, ◌^◌, ◌<◌, ◌++◌, [], ℕ, List, Option, None, Some, IsTrue, IsSome, IfOk, OnOk, OnErr, length};
 ghost use Rattle.disk_model.specs.Images.{HasCause};
 ghost use Rattle.disk_model.specs.Tables.{Sealed, Gone, capped, with_table, with_retired, with_removed, TakesSome};
 
@@ -104,4 +104,7 @@ pub trait Maker {
         ensures sealed { sealed self.new ≡ sealed self.old }
         ensures taken { taken self.new ≡ taken self.old }
         ensures cause { HasCause (faults self.old) (faults self.new) result };
+
+    /// The count of the bytes taken stays below 2^64.
+    ghost taken_fits: { (maker : Self) → taken maker < 2 ^ 64 };
 }

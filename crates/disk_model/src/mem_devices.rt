@@ -7,8 +7,9 @@ ghost use Rattle.disk_model.specs.Files.{changed};
 ghost use Rattle.disk_model.specs.Images.{IsAtRest};
 ghost use Rattle.disk_model.specs.Plans.{IsEmptyPlan};
 ghost use Rattle.disk_model.specs.Shelf.{files_of, kept_by, tally_of, there_left};
-ghost use Rattle.disk_model.specs.Tables.{TablesRest, TablesStay, IsTableImage, with_table};
-ghost use Rattle.disk_model.specs.Told.{TellsTheSame};
+ghost use Rattle.disk_model.specs.Tables.{with_table};
+ghost use Rattle.disk_model.specs.Told.{TellsTheSame, TablesStay, TablesRest, MayLeaveTables, told_by};
+ghost use Rattle.disk_model.specs.Ports.{IsNewPort};
 
 use crate::kind_turns::KindTurns;
 use crate::shelf::Shelf;
@@ -41,17 +42,16 @@ impl MemDevices {
     ///
     /// Memory is the one refusal.
     pub fn new(alloc: Global, plans: Plans) -> Result<MemDevices, Memory>
-        ensures empty { IfOk result (λ devices. ⟦<MemDevices as Devices>⟧.seen devices ≡ (λ _. None)) }
+        ensures empty { IfOk result (λ devices. (⟦<MemDevices as Devices>⟧.journal_told devices).seen ≡ (λ _. None)) }
         ensures rests { IfOk result (λ devices.
-            IsAtRest (⟦<MemDevices as Devices>⟧.seen devices) (⟦<MemDevices as Devices>⟧.may_leave devices)) }
-        ensures count { IfOk result (λ devices. ⟦<MemDevices as Devices>⟧.journal_faults devices ≡ 0) }
+            IsAtRest (⟦<MemDevices as Devices>⟧.journal_told devices).seen (⟦<MemDevices as Devices>⟧.journal_told devices).may_leave) }
+        ensures count { IfOk result (λ devices. (⟦<MemDevices as Devices>⟧.journal_told devices).faults ≡ 0) }
         ensures faults { IfOk result (λ devices. ⟦<MemDevices as Devices>⟧.faults devices ≡ 0) }
-        ensures steady { IsEmptyPlan plans.journal → IfOk result (λ devices. ⟦<MemDevices as Devices>⟧.steady devices) }
-        ensures no_tables { IfOk result (λ devices. (n : ℕ) → (⟦<MemDevices as Devices>⟧.table_files devices).sealed n ≡ None) }
-        ensures tables_rest { IfOk result (λ devices. TablesRest (⟦<MemDevices as Devices>⟧.table_files devices)
-            (⟦<MemDevices as Devices>⟧.kept devices) (⟦<MemDevices as Devices>⟧.tally devices)) }
-        ensures table_faults { IfOk result (λ devices. ⟦<MemDevices as Devices>⟧.table_faults devices ≡ 0) }
-        ensures ports_steady { IsEmptyPlan plans.port → IfOk result (λ devices. ⟦<MemDevices as Devices>⟧.ports_steady devices) }
+        ensures steady { IsEmptyPlan plans.journal → IfOk result (λ devices. (⟦<MemDevices as Devices>⟧.journal_told devices).steady) }
+        ensures no_tables { IfOk result (λ devices. (n : ℕ) → (⟦<MemDevices as Devices>⟧.tables_told devices).files.sealed n ≡ None) }
+        ensures tables_rest { IfOk result (λ devices. TablesRest (⟦<MemDevices as Devices>⟧.tables_told devices)) }
+        ensures table_faults { IfOk result (λ devices. (⟦<MemDevices as Devices>⟧.tables_told devices).faults ≡ 0) }
+        ensures ports_steady { IsEmptyPlan plans.port → IfOk result (λ devices. (⟦<MemDevices as Devices>⟧.tables_told devices).steady) }
         ensures directories { IfOk result (λ devices. ⟦<MemDevices as Devices>⟧.directories devices ≡ no_directories) }
     {
         let journal = MemJournal::new(alloc, plans.journal);
@@ -74,25 +74,23 @@ impl MemDevices {
     ///
     /// Memory is the one refusal; the devices are then gone.
     pub fn crash(self, pick: Pick) -> Result<MemDevices, Memory>
-        ensures allowed { IfOk result (λ after. ⟦<MemDevices as Devices>⟧.may_leave self (⟦<MemDevices as Devices>⟧.seen after)) }
-        ensures old { pick ≡ Old → IfOk result (λ after. ⟦<MemDevices as Devices>⟧.seen after ≡ synced_of self) }
+        ensures allowed { IfOk result (λ after. (⟦<MemDevices as Devices>⟧.journal_told self).may_leave (⟦<MemDevices as Devices>⟧.journal_told after).seen) }
+        ensures old { pick ≡ Old → IfOk result (λ after. (⟦<MemDevices as Devices>⟧.journal_told after).seen ≡ synced_of self) }
         ensures new { pick ≡ New →
-            IfOk result (λ after. ⟦<MemDevices as Devices>⟧.seen after ≡ ⟦<MemDevices as Devices>⟧.seen self) }
+            IfOk result (λ after. (⟦<MemDevices as Devices>⟧.journal_told after).seen ≡ (⟦<MemDevices as Devices>⟧.journal_told self).seen) }
         ensures rests { IfOk result (λ after.
-            IsAtRest (⟦<MemDevices as Devices>⟧.seen after) (⟦<MemDevices as Devices>⟧.may_leave after)) }
-        ensures count { IfOk result (λ after. ⟦<MemDevices as Devices>⟧.journal_faults after ≡ 0) }
+            IsAtRest (⟦<MemDevices as Devices>⟧.journal_told after).seen (⟦<MemDevices as Devices>⟧.journal_told after).may_leave) }
+        ensures count { IfOk result (λ after. (⟦<MemDevices as Devices>⟧.journal_told after).faults ≡ 0) }
         ensures faults { IfOk result (λ after. ⟦<MemDevices as Devices>⟧.faults after ≡ 0) }
-        ensures steady { IfOk result (λ after. ⟦<MemDevices as Devices>⟧.steady after) }
-        ensures tables { IfOk result (λ after. IsTableImage (⟦<MemDevices as Devices>⟧.kept self)
-            (⟦<MemDevices as Devices>⟧.tally self).gone (⟦<MemDevices as Devices>⟧.table_files after).sealed) }
+        ensures steady { IfOk result (λ after. (⟦<MemDevices as Devices>⟧.journal_told after).steady) }
+        ensures tables { IfOk result (λ after. MayLeaveTables (⟦<MemDevices as Devices>⟧.tables_told self) (⟦<MemDevices as Devices>⟧.tables_told after).files) }
         ensures old_tables { pick ≡ Old → IfOk result (λ after. (n : ℕ) →
-            (⟦<MemDevices as Devices>⟧.table_files after).sealed n ≡ ⟦<MemDevices as Devices>⟧.kept self n) }
+            (⟦<MemDevices as Devices>⟧.tables_told after).files.sealed n ≡ (⟦<MemDevices as Devices>⟧.tables_told self).kept n) }
         ensures new_tables { pick ≡ New → IfOk result (λ after. (n : ℕ) →
-            (⟦<MemDevices as Devices>⟧.table_files after).sealed n ≡ (⟦<MemDevices as Devices>⟧.table_files self).sealed n) }
-        ensures tables_rest { IfOk result (λ after. TablesRest (⟦<MemDevices as Devices>⟧.table_files after)
-            (⟦<MemDevices as Devices>⟧.kept after) (⟦<MemDevices as Devices>⟧.tally after)) }
-        ensures table_faults { IfOk result (λ after. ⟦<MemDevices as Devices>⟧.table_faults after ≡ 0) }
-        ensures ports_steady { IfOk result (λ after. ⟦<MemDevices as Devices>⟧.ports_steady after) }
+            (⟦<MemDevices as Devices>⟧.tables_told after).files.sealed n ≡ (⟦<MemDevices as Devices>⟧.tables_told self).files.sealed n) }
+        ensures tables_rest { IfOk result (λ after. TablesRest (⟦<MemDevices as Devices>⟧.tables_told after)) }
+        ensures table_faults { IfOk result (λ after. (⟦<MemDevices as Devices>⟧.tables_told after).faults ≡ 0) }
+        ensures ports_steady { IfOk result (λ after. (⟦<MemDevices as Devices>⟧.tables_told after).steady) }
         ensures directories { IfOk result (λ after. ⟦<MemDevices as Devices>⟧.directories after ≡ no_directories) }
     {
         let alloc = self.alloc;
@@ -114,19 +112,14 @@ impl MemDevices {
     /// The plans stay, and the journal's counts begin again. Memory is the one refusal; the devices are then gone.
     pub fn with_file(self, file: JournalFile, bytes: &[u8]) -> Result<MemDevices, Memory>
         ensures seen { IfOk result (λ after.
-            ⟦<MemDevices as Devices>⟧.seen after ≡ changed file (Some bytes.now) (⟦<MemDevices as Devices>⟧.seen self)) }
+            (⟦<MemDevices as Devices>⟧.journal_told after).seen ≡ changed file (Some bytes.now) ((⟦<MemDevices as Devices>⟧.journal_told self).seen)) }
         ensures rests { IfOk result (λ after.
-            IsAtRest (⟦<MemDevices as Devices>⟧.seen after) (⟦<MemDevices as Devices>⟧.may_leave after)) }
-        ensures count { IfOk result (λ after. ⟦<MemDevices as Devices>⟧.journal_faults after ≡ 0) }
+            IsAtRest (⟦<MemDevices as Devices>⟧.journal_told after).seen (⟦<MemDevices as Devices>⟧.journal_told after).may_leave) }
+        ensures count { IfOk result (λ after. (⟦<MemDevices as Devices>⟧.journal_told after).faults ≡ 0) }
         ensures faults { IfOk result (λ after. ⟦<MemDevices as Devices>⟧.faults after ≡ 0) }
-        ensures steady { ⟦<MemDevices as Devices>⟧.steady self → IfOk result (λ after. ⟦<MemDevices as Devices>⟧.steady after) }
+        ensures steady { (⟦<MemDevices as Devices>⟧.journal_told self).steady → IfOk result (λ after. (⟦<MemDevices as Devices>⟧.journal_told after).steady) }
         ensures tables { IfOk result (λ after.
-            TablesStay (⟦<MemDevices as Devices>⟧.table_files self) (⟦<MemDevices as Devices>⟧.table_files after)
-            (⟦<MemDevices as Devices>⟧.kept self) (⟦<MemDevices as Devices>⟧.kept after)
-            (⟦<MemDevices as Devices>⟧.tally self) (⟦<MemDevices as Devices>⟧.tally after)
-            (⟦<MemDevices as Devices>⟧.ports_steady self) (⟦<MemDevices as Devices>⟧.ports_steady after)) }
-        ensures table_faults { IfOk result (λ after.
-            ⟦<MemDevices as Devices>⟧.table_faults after ≡ ⟦<MemDevices as Devices>⟧.table_faults self) }
+            TablesStay (⟦<MemDevices as Devices>⟧.tables_told self) (⟦<MemDevices as Devices>⟧.tables_told after)) }
         ensures directories { IfOk result (λ after. ⟦<MemDevices as Devices>⟧.directories after ≡ ⟦<MemDevices as Devices>⟧.directories self) }
     {
         Ok(MemDevices {
@@ -142,20 +135,14 @@ impl MemDevices {
     /// The plans stay, and the counts of ports and makers begin again. Memory is the one refusal; the devices are
     /// then gone.
     pub fn with_table(self, number: u64, bytes: &[u8]) -> Result<MemDevices, Memory>
-        ensures sealed { IfOk result (λ after. (n : ℕ) → (⟦<MemDevices as Devices>⟧.table_files after).sealed n
-            ≡ with_table number bytes.now (⟦<MemDevices as Devices>⟧.table_files self).sealed n) }
-        ensures rests { IfOk result (λ after. TablesRest (⟦<MemDevices as Devices>⟧.table_files after)
-            (⟦<MemDevices as Devices>⟧.kept after) (⟦<MemDevices as Devices>⟧.tally after)) }
-        ensures table_faults { IfOk result (λ after. ⟦<MemDevices as Devices>⟧.table_faults after ≡ 0) }
-        ensures ports_steady { ⟦<MemDevices as Devices>⟧.ports_steady self →
-            IfOk result (λ after. ⟦<MemDevices as Devices>⟧.ports_steady after) }
+        ensures sealed { IfOk result (λ after. (n : ℕ) → (⟦<MemDevices as Devices>⟧.tables_told after).files.sealed n
+            ≡ with_table number bytes.now (⟦<MemDevices as Devices>⟧.tables_told self).files.sealed n) }
+        ensures rests { IfOk result (λ after. TablesRest (⟦<MemDevices as Devices>⟧.tables_told after)) }
+        ensures table_faults { IfOk result (λ after. (⟦<MemDevices as Devices>⟧.tables_told after).faults ≡ 0) }
+        ensures ports_steady { (⟦<MemDevices as Devices>⟧.tables_told self).steady →
+            IfOk result (λ after. (⟦<MemDevices as Devices>⟧.tables_told after).steady) }
         ensures told { IfOk result (λ after.
-            TellsTheSame (⟦<MemDevices as Devices>⟧.seen self) (⟦<MemDevices as Devices>⟧.seen after)
-            (⟦<MemDevices as Devices>⟧.may_leave self) (⟦<MemDevices as Devices>⟧.may_leave after)
-            (⟦<MemDevices as Devices>⟧.moment self) (⟦<MemDevices as Devices>⟧.moment after)
-            (⟦<MemDevices as Devices>⟧.left_since self) (⟦<MemDevices as Devices>⟧.left_since after)
-            (⟦<MemDevices as Devices>⟧.journal_faults self) (⟦<MemDevices as Devices>⟧.journal_faults after)) }
-        ensures steady { ⟦<MemDevices as Devices>⟧.steady self → IfOk result (λ after. ⟦<MemDevices as Devices>⟧.steady after) }
+            TellsTheSame (⟦<MemDevices as Devices>⟧.journal_told self) (⟦<MemDevices as Devices>⟧.journal_told after)) }
         ensures faults { IfOk result (λ after. ⟦<MemDevices as Devices>⟧.faults after ≡ ⟦<MemDevices as Devices>⟧.faults self) }
         ensures directories { IfOk result (λ after. ⟦<MemDevices as Devices>⟧.directories after ≡ ⟦<MemDevices as Devices>⟧.directories self) }
     {
@@ -170,14 +157,14 @@ impl MemDevices {
 
     /// The file's bytes as reads give them, or `None` where it isn't there.
     pub fn bytes_of(&self, file: JournalFile) -> Option<&[u8]>
-        ensures { option_copied result ≡ ⟦<MemDevices as Devices>⟧.seen self.now file }
+        ensures { option_copied result ≡ (⟦<MemDevices as Devices>⟧.journal_told self.now).seen file }
     {
         self.journal.bytes_of(file)
     }
 
     /// The bytes of the sealed table of this number, or `None` where it isn't there.
     pub fn table_bytes(&self, number: u64) -> Option<&[u8]>
-        ensures { option_copied result ≡ (⟦<MemDevices as Devices>⟧.table_files self.now).sealed number }
+        ensures { option_copied result ≡ (⟦<MemDevices as Devices>⟧.tables_told self.now).files.sealed number }
     {
         if self.stock.shelf.has_lost(number) {
             return None;
@@ -190,10 +177,7 @@ impl MemDevices {
 
     /// A port over the table files that are there.
     fn make_port(&self) -> Result<MemPort, AllocError>
-        ensures files { IfOk result (λ port. ⟦<MemPort as Port>⟧.table_files port ≡ files_of self.now.stock.shelf) }
-        ensures faults { IfOk result (λ port. ⟦<MemPort as Port>⟧.faults port ≡ 0) }
-        ensures reads { IfOk result (λ port. ⟦<MemPort as Port>⟧.reads port ≡ 0) }
-        ensures steady { IsEmptyPlan (arc_value self.now.ports).plan → IfOk result (λ port. ⟦<MemPort as Port>⟧.steady port) }
+        ensures { IfOk result (λ port. IsNewPort ⟦<MemPort as Port>⟧ (⟦<MemDevices as Devices>⟧.tables_told self.now) port) }
     {
         let tables = Arc::new(self.alloc, self.stock.shelf.files(self.alloc)?)?;
         let port = MemPort::new(self.alloc, &self.ports, tables)?;
@@ -214,29 +198,17 @@ impl Devices for MemDevices {
 
     type M = MemMaker;
 
-    ghost seen = { λ d. ⟦<MemJournal as Journal>⟧.seen d.journal };
+    ghost journal_told = { λ d. told_by ⟦<MemJournal as Journal>⟧ d.journal };
 
-    ghost may_leave = { λ d. ⟦<MemJournal as Journal>⟧.may_leave d.journal };
-
-    ghost moment = { λ d. ⟦<MemJournal as Journal>⟧.moment d.journal };
-
-    ghost left_since = { λ d. ⟦<MemJournal as Journal>⟧.left_since d.journal };
-
-    ghost journal_faults = { λ d. ⟦<MemJournal as Journal>⟧.faults d.journal };
-
-    ghost steady = { λ d. ⟦<MemJournal as Journal>⟧.steady d.journal };
+    ghost tables_told = { λ d. record {
+      files = files_of d.stock.shelf;
+      kept = kept_by d.stock.shelf;
+      tally = tally_of d.stock;
+      faults = d.stock.faults;
+      steady = IsEmptyPlan (arc_value d.ports).plan;
+    } };
 
     ghost faults = { λ d. d.faults };
-
-    ghost table_files = { λ d. files_of d.stock.shelf };
-
-    ghost kept = { λ d. kept_by d.stock.shelf };
-
-    ghost tally = { λ d. tally_of d.stock };
-
-    ghost table_faults = { λ d. d.stock.faults };
-
-    ghost ports_steady = { λ d. IsEmptyPlan (arc_value d.ports).plan };
 
     ghost directories = { λ d. d.directories };
 
@@ -246,7 +218,7 @@ impl Devices for MemDevices {
 
     ghost read_is_left = { λ d told. kept_left (image_of d.journal.first.items) (reverse d.journal.past.items) (image_of d.journal.files.items) d.journal.calls d.journal.agrees };
 
-    ghost there_is_left = { λ d told. there_left d.stock.shelf };
+    ghost there_is_left = { λ d told. record { sealed = there_left d.stock.shelf; unsealed = λ n is. is } };
 
     fn set(&mut self, dir: &str) -> Result<(), Failed> {
         match String::from_str(self.alloc, dir) {

@@ -60,6 +60,8 @@ impl Maker for MemMaker {
 
     ghost faults = { λ maker. maker.turns.faults };
 
+    ghost taken_fits = { λ maker. maker.fits };
+
     fn begin(&mut self, number: u64) -> Result<(), Failed> {
         self.turns.begin()?;
         self.made.begun = Some(number);

@@ -1,4 +1,4 @@
-ghost use Rattle.std.specs.Prelude.{◌≡◌, IfOk, IfSome, option_map};
+ghost use Rattle.std.specs.Prelude.{◌≡◌, ◌<◌, ◌^◌, IfOk, IfSome, option_map};
 ghost use Rattle.std.specs.Arc.{arc_value};
 ghost use Rattle.disk_model.specs.TableLists.{table_bytes, table_in};
 ghost use Rattle.disk_model.specs.Shelf.{files_in};
@@ -21,6 +21,7 @@ pub struct MemPort {
     pub(crate) turns: SharedTurns,
     tables: Arc<PortTables>,
     pub(crate) reads: u64,
+    ghost fits: { reads < 2 ^ 64 },
 }
 
 /// A further handle of the table of this number, if it is among these.
@@ -65,6 +66,8 @@ impl Port for MemPort {
     ghost reads = { λ port. port.reads };
 
     ghost steady = { λ port. IsEmptyPlan (arc_value port.turns.kind).plan };
+
+    ghost reads_fit = { λ port. port.fits };
 
     fn find(&mut self, number: u64) -> Result<Option<MemTableFile>, Failed> {
         self.turns.begin()?;

@@ -7,7 +7,6 @@ pub mod Indexes
 pub mod Items
 pub mod Limits
 pub mod Opening
-pub mod Ports
 pub mod Rows
 pub mod Sums
 pub mod Tables

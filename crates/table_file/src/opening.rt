@@ -4,7 +4,7 @@ ghost use Rattle.std.specs.Prelude.{◌≡◌, ◌+◌, ◌-◌, ◌<◌, ◌≤
 ghost use Rattle.table_file.specs.Damages.{IsDamage, TellsTable};
 ghost use Rattle.table_file.specs.Form.{footer_bytes, index_bytes};
 ghost use Rattle.table_file.specs.Opening.{IsFooterOf, IsIndex, IsNoTable, OpensAs};
-ghost use Rattle.table_file.specs.Ports.{ReadsAtMost};
+ghost use Rattle.disk_model.specs.Ports.{ReadsAtMost};
 ghost use Rattle.table_file.specs.declared.table_fault.TableFault.TheVariants.{Fault};
 
 use crate::footer::{Footer, footer_for};
