@@ -13,7 +13,7 @@ use Rattle.flsm_model.specs.Outcomes.{IsOutcome}
 use Rattle.flsm_model.specs.Jobs.{IsLawful}
 use Rattle.flsm_model.specs.Legal.{Allowed}
 use Rattle.flsm_model.specs.Steps.{step}
-use Rattle.flsm_model.specs.TrueRecord.{IsIn}
+use Rattle.peb_base.specs.Members.{IsIn}
 use Rattle.flsm_model.proofs.Falls.{InFlight}
 use Rattle.flsm_model.proofs.Histories.{JobsHold, job_in, apart_pair, within}
 use Rattle.flsm_model.proofs.Truth.{All}

@@ -23,7 +23,7 @@ use Rattle.flsm_model.specs.Events.{Session, Standing, base}
 use Rattle.flsm_model.specs.Jobs.{numbers_needed, job_range}
 use Rattle.flsm_model.specs.Outcomes.{into_at, IsEditOf}
 use Rattle.flsm_model.specs.Steps.{run}
-use Rattle.flsm_model.specs.TrueRecord.{IsIn}
+use Rattle.peb_base.specs.Members.{IsIn}
 use Rattle.flsm_model.specs.Legal.{Always}
 use Rattle.flsm_model.specs.Undisturbed.{KeepsMove, KeepsCut, KeepsMerge, KeepsKind, Undisturbed}
 use Rattle.flsm_model.specs.Made.{IsMade, OutcomesFit}

@@ -13,7 +13,7 @@ use Rattle.flsm_model.specs.declared.job_kind.JobKind.TheVariants.{Flush as Flus
 use Rattle.flsm_model.specs.declared.job.Job.{Job}
 use Rattle.flsm_model.specs.Shape.{has_number, outputs_of}
 use Rattle.flsm_model.specs.Choices.{Chooses}
-use Rattle.flsm_model.specs.TrueRecord.{IsIn}
+use Rattle.peb_base.specs.Members.{IsIn}
 use Rattle.flsm_model.specs.Events.{Event, Session, Standing, Running}
 use Rattle.flsm_model.specs.Jobs.{numbers_needed}
 use Rattle.flsm_model.specs.Outcomes.{level_into, outcome, frozen_entries, IsEditOf, IsOutcome}
