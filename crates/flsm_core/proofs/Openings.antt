@@ -7,6 +7,7 @@ use Rattle.peb_base.specs.Batches.{Batches}
 use Rattle.disk_model.specs.declared.journal_file.JournalFile.TheVariants.{Log}
 use Rattle.disk_model.specs.declared.journal_file.JournalFile.{JournalFile}
 use Rattle.disk_model.specs.Images.{Image, Keeps, In, Stays, Follows}
+use Rattle.disk_model.specs.Told.{told_by}
 use Rattle.disk_model.specs.Files.{same_file, same_true, same_self, decide}
 use Rattle.std.proofs.lemmas.Bool.{cases_lt}
 use Rattle.disk_model.specs.Moments.{elapses_on, elapses_none}
@@ -81,7 +82,7 @@ taken false seen number header records holds =
 -- ---- several reads in a row
 
 pub watched_none : {D : Type 0} (d : Ghosts D) (journal : D) → ((t : ℕ) (image : Image) → t ≤ d.moment journal → d.may_leave journal image → d.left_since journal t image)
-    → ((image : Image) → d.left_since journal (d.moment journal) image → d.may_leave journal image) → HasWatched d journal journal
+    → ((image : Image) → d.left_since journal (d.moment journal) image → d.may_leave journal image) → HasWatched (told_by d journal) (told_by d journal)
 watched_none d journal counts only = record {
   seen = refl;
   time = elapses_none (d.moment journal) (d.left_since journal) (λ t image le left. counts t image le (only image left));
@@ -89,7 +90,7 @@ watched_none d journal counts only = record {
 }
 
 pub watched_on : {D : Type 0} (d : Ghosts D) (old mid new : D) → ((image : Image) → d.may_leave mid image → d.left_since mid (d.moment old) image)
-    → HasWatched d old mid → HasWatched d mid new → HasWatched d old new
+    → HasWatched (told_by d old) (told_by d mid) → HasWatched (told_by d mid) (told_by d new) → HasWatched (told_by d old) (told_by d new)
 watched_on d old mid new counts one two = record {
   seen = two.seen ∙ one.seen;
   time = elapses_on one.time two.time;
@@ -100,11 +101,11 @@ watched_on d old mid new counts one two = record {
 }
 
 pub kept_on : {D : Type 0} (d : Ghosts D) (old new : D) (n : ℕ) → ((image : Image) → d.may_leave new image → d.left_since new (d.moment old) image)
-    → HasWatched d old new → AreKept d old n → AreKept d new n
+    → HasWatched (told_by d old) (told_by d new) → AreKept d old n → AreKept d new n
 kept_on d old new n counts watched kept m some within image left =
     kept m some within image (watched.each image (counts image left)) ∙ ap (λ (i : Image). i (Log m)) (sym watched.seen)
 
-pub kept_more : {D : Type 0} (d : Ghosts D) (old new : D) (n : ℕ) → HasWatched d old new → Keeps (Log (n + 1)) (d.seen old (Log (n + 1))) (d.may_leave new) → AreKept d new n → AreKept d new (n + 1)
+pub kept_more : {D : Type 0} (d : Ghosts D) (old new : D) (n : ℕ) → HasWatched (told_by d old) (told_by d new) → Keeps (Log (n + 1)) (d.seen old (Log (n + 1))) (d.may_leave new) → AreKept d new n → AreKept d new (n + 1)
 kept_more d old new n watched next kept m some within = elim (cases_lt n m) [
   | inl last ↦ let at : n + 1 ≡ m = omega (arith, last, within) in
       subst (λ (k : ℕ). Keeps (Log k) (d.seen new (Log k)) (d.may_leave new)) at
@@ -150,7 +151,7 @@ each_stands profile false base seen may_leave sure on = absurd (cc)
 -- what the reading of the logs found
 pub record Read {D : Type 0} (d : Ghosts D) (old new : D) (profile : Profile) (held : List Held) (batches : Batches) : Type 0 where
   pub reads : Reads profile (d.seen old) held batches
-  pub watched : HasWatched d old new
+  pub watched : HasWatched (told_by d old) (told_by d new)
   pub kept : AreKept d new (suc (length held))
   pub counts : (image : Image) → d.may_leave new image → d.left_since new (d.moment old) image
   pub read : d.may_leave old (d.seen old)
@@ -168,7 +169,7 @@ none_over fin one batch d old new profile held batches base found stands m lt =
     ap (λ (i : Image). i (Log m)) found.watched.seen ∙ stands.none_above m (subst (λ (l : List Held). suc (length l) < m) same.logs lt)
 
 pub quiet_after : Finished → OneLog → OneBatch → {D : Type 0} (d : Ghosts D) (old new : D) (profile : Profile) (honest : Bool) (held : List Held) (batches : Batches) → Read d old new profile held batches
-    → OpensOn profile honest batches (d.seen old) (d.may_leave old) → Quiet d new (start_at d old profile honest batches) held
+    → OpensOn profile honest batches (d.seen old) (d.may_leave old) → Quiet d new (start_at (told_by d old) profile honest batches) held
 quiet_after fin one batch d old new profile honest held batches found on =
     let seen : d.seen new ≡ d.seen old = found.watched.seen in
     let stands : IsTrue honest → (image : Image) → d.may_leave old image → Stands profile batches image = λ sure. each_stands profile honest batches (d.seen old) (d.may_leave old) sure on in
@@ -190,8 +191,8 @@ quiet_after fin one batch d old new profile honest held batches found on =
 
 -- after the reading of the logs the opening has read them all
 pub has_read : Finished → OneLog → OneBatch → {D : Type 0} (d : Ghosts D) (old new : D) (profile : Profile) (honest : Bool) (held : List Held) (batches : Batches)
-    → (IsTrue d.tells → Read d old new profile held batches) → HasWatched d old new → d.faults old ≤ d.faults new
-    → (IsTrue d.tells → OpensOn profile honest batches (d.seen old) (d.may_leave old)) → HasRead d new (start_at d old profile honest batches) held
+    → (IsTrue d.tells → Read d old new profile held batches) → HasWatched (told_by d old) (told_by d new) → d.faults old ≤ d.faults new
+    → (IsTrue d.tells → OpensOn profile honest batches (d.seen old) (d.may_leave old)) → HasRead d new (start_at (told_by d old) profile honest batches) held
 has_read fin one batch d old new profile honest held batches found watched later on = record {
   began = watched.time.later;
   counted = later;

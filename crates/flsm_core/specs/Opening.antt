@@ -8,6 +8,7 @@ use Rattle.peb_base.specs.Batches.{Batches, last_number, are_in_order}
 use Rattle.peb_base.specs.Map.{map_at}
 use Rattle.disk_model.specs.declared.journal_file.JournalFile.TheVariants.{Log}
 use Rattle.disk_model.specs.Images.{Image, Elapses, Keeps}
+use Rattle.disk_model.specs.Told.{JournalTold}
 use Rattle.record_log.specs.declared.header.Header.{Header}
 use Rattle.record_log.specs.declared.log_fault.LogFault.{LogFault}
 use Rattle.record_log.specs.declared.log_fault.LogFault.TheVariants as logs
@@ -73,10 +74,10 @@ pub record IsFound (profile : Profile) (found : Found) (logs : List Held) (batch
   pub same : AreOf profile logs
 
 -- only reads and syncs came between: what reads give is the same, and each image since then is one of before
-pub record HasWatched {D : Type 0} (d : Ghosts D) (old new : D) : Type 0 where
-  pub seen : d.seen new ≡ d.seen old
-  pub time : Elapses (d.moment old) (d.moment new) (d.left_since old) (d.left_since new)
-  pub each : (image : Image) → d.left_since new (d.moment old) image → d.may_leave old image
+pub record HasWatched (old new : JournalTold) : Type 0 where
+  pub seen : new.seen ≡ old.seen
+  pub time : Elapses old.moment new.moment old.left_since new.left_since
+  pub each : (image : Image) → new.left_since old.moment image → old.may_leave image
 
 -- a crash leaves the logs 1 to n as reads give them
 abbrev pub AreKept : {D : Type 0} → Ghosts D → D → ℕ → Type 0

@@ -5,7 +5,7 @@ use Rattle.peb_base.specs.declared.change.Change.TheVariants.{Put}
 use Rattle.peb_base.specs.Keys.{Bytes}
 use Rattle.peb_base.specs.declared.limit_kind.LimitKind.{LimitKind}
 use Rattle.peb_base.specs.declared.profile.Profile.{Profile}
-use Rattle.disk_model.specs.declared.journal.Journal.{Ghosts}
+use Rattle.disk_model.specs.Told.{JournalTold}
 use Rattle.peb_base.specs.declared.limit_kind.LimitKind.TheVariants as kinds
 use Rattle.peb_base.specs.Batches.{Batches, last_number}
 use Rattle.record_log.specs.Groups.{records_bytes}
@@ -29,11 +29,11 @@ pub record Start : Type 0 where
   pub base : Batches
 
 -- an opening in this profile and on this base begins with the journal as it is
-abbrev pub start_at : {D : Type 0} → Ghosts D → D → Profile → Bool → Batches → Start
-start_at d journal profile honest base =
+abbrev pub start_at : JournalTold → Profile → Bool → Batches → Start
+start_at told profile honest base =
     record {
-      moment = d.moment journal;
-      faults = d.faults journal;
+      moment = told.moment;
+      faults = told.faults;
       profile = profile;
       honest = honest;
       base = base;

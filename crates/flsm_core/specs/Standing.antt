@@ -6,6 +6,7 @@ use Rattle.peb_base.specs.Map.{map_at}
 use Rattle.disk_model.specs.declared.journal_file.JournalFile.TheVariants.{Log}
 use Rattle.peb_base.specs.declared.profile.Profile.{Profile}
 use Rattle.disk_model.specs.Images.{Image, Rose}
+use Rattle.disk_model.specs.Told.{JournalTold}
 use Rattle.record_log.specs.declared.log_file.LogFile.{LogFile}
 use Rattle.record_log.specs.Groups.{records_bytes}
 use Rattle.record_log.specs.State.{log_file, log_tail}
@@ -65,3 +66,11 @@ pub record IsAt {D : Type 0} (d : Ghosts D) (state : State D) (p : Place) : Type
   pub now : IsTrue d.tells → IsTrue p.start.honest → (image : Image)
       → d.may_leave state.journal image → Leaves p.start.profile p.settled (all_of p) image
   pub rests : IsTrue d.tells → p.stopped ≡ false → Rests d state.journal state.log state.session p
+
+-- A journal of a store that stood at this place: a crash now leaves the settled batches and perhaps others, and at no
+-- moment since the opening one lost the base.
+pub record IsLeftBy (p : Place) (told : JournalTold) : Type 0 where
+  pub now : IsTrue p.start.honest → (image : Image) → told.may_leave image
+      → Leaves p.start.profile p.settled (all_of p) image
+  pub ever : IsTrue p.start.honest → (image : Image) → told.left_since p.start.moment image
+      → Leaves p.start.profile p.start.base (all_of p) image

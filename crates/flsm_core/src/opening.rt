@@ -2,6 +2,7 @@ ghost use Rattle.std.specs.Prelude.{◌≡◌, ◌≤◌, ◌<◌, ◌+◌, ◌*
 ghost use Rattle.peb_base.specs.Batches.{Batches, last_number};
 ghost use Rattle.disk_model.specs.Images.{Image, Follows, In, Stays, Elapses, Keeps, HasCause, Rose};
 ghost use Rattle.disk_model.specs.declared.journal_file.JournalFile.TheVariants.{Log};
+ghost use Rattle.disk_model.specs.Told.{told_by};
 ghost use Rattle.record_log.specs.Log.{IsUnfinished};
 ghost use Rattle.flsm_core.specs.Logs.{Held, HoldsLogs, BeginsLogs, ReadsAs, Stands, greatest_session};
 ghost use Rattle.flsm_core.specs.Opening.{fault_of, IsFound, HasWatched, AreKept, OpenCause};
@@ -39,7 +40,7 @@ fn next_log<J: Journal>(
     ensures done { IfOk result (λ step. step.1 ≡ false → (step.0 ≡ found) × (IsTrue J.tells → IsUnfinished (J.seen journal.old (Log (found.logs + 1))))) }
     ensures cause { IfErr result (λ fault. (logs : List Held) (batches : Batches) → IsFound profile found logs batches → (IsTrue J.tells → BeginsLogs 1 logs (J.seen journal.old))
         → OpenCause (Rose (J.faults journal.old) (J.faults journal.new)) J.tells (J.seen journal.old) profile fault) }
-    ensures watched { HasWatched J.Journal journal.old journal.new }
+    ensures watched { HasWatched (told_by J.Journal journal.old) (told_by J.Journal journal.new) }
     ensures kept { OnOk result (Keeps (Log (found.logs + 1)) (J.seen journal.old (Log (found.logs + 1))) (J.may_leave journal.new)) }
     ensures later { J.faults journal.old ≤ J.faults journal.new }
 {
@@ -66,7 +67,7 @@ fn read_logs<J: Journal>(
     ensures found { IfOk result (λ found. (logs : List Held) × (batches : Batches) × IsFound profile found logs batches × (IsTrue J.tells → HoldsLogs 1 logs (J.seen journal.old))) }
     ensures kept { IfOk result (λ found. AreKept J.Journal journal.new (found.logs + 1)) }
     ensures cause { IfErr result (OpenCause (Rose (J.faults journal.old) (J.faults journal.new)) J.tells (J.seen journal.old) profile) }
-    ensures watched { HasWatched J.Journal journal.old journal.new }
+    ensures watched { HasWatched (told_by J.Journal journal.old) (told_by J.Journal journal.new) }
     ensures later { J.faults journal.old ≤ J.faults journal.new }
 {
     let mut found = Found::new(alloc);
@@ -142,10 +143,10 @@ impl<J: Journal> State<J> {
         // what it gives
         ensures stands { IfOk result (λ state. IsTrue J.tells → (honest : Bool) (base : Batches)
             → OpensOn profile honest base (J.seen journal) (J.may_leave journal)
-            → IsAt J.Journal state (opened (start_at J.Journal journal profile honest base))) }
+            → IsAt J.Journal state (opened (start_at (told_by J.Journal journal) profile honest base))) }
         ensures somewhere { IfOk result (λ state. (base : Batches)
             × (IsTrue J.tells → ReadsAs profile base (J.seen journal))
-            × IsAt J.Journal state (opened (start_at J.Journal journal profile false base))) }
+            × IsAt J.Journal state (opened (start_at (told_by J.Journal journal) profile false base))) }
         ensures session { IfOk result (λ state. IsTrue J.tells → (logs : List Held)
             × HoldsLogs 1 logs (J.seen journal) × (state_session state ≡ suc (greatest_session logs))) }
         ensures fresh { IfOk result (λ state. IsTrue J.tells → (base : Batches)
@@ -154,7 +155,8 @@ impl<J: Journal> State<J> {
         ensures cause { IfErr result (λ e. OpenCause (Rose (J.faults journal) (J.faults e.1))
             J.tells (J.seen journal) profile e.0) }
         // what it leaves
-        ensures untouched { IfErr result (λ e. e.0 ≢ opens.Journal → HasWatched J.Journal journal e.1) }
+        ensures untouched { IfErr result (λ e. e.0 ≢ opens.Journal
+            → HasWatched (told_by J.Journal journal) (told_by J.Journal e.1)) }
         ensures images { IfErr result (λ e. IsTrue J.tells → (base : Batches)
             → OpensOn profile true base (J.seen journal) (J.may_leave journal)
             → (image : Image) → J.left_since e.1 (J.moment journal) image → Stands profile base image) }

@@ -81,17 +81,14 @@ fn apply_one(current: &mut CurrentMap, batch: Batch) -> Result<(), Memory>
 
 impl<J: Journal> State<J> {
     ghost use Rattle.std.specs.Prelude.{IsTrue};
-    ghost use Rattle.disk_model.specs.Images.{Image};
-    ghost use Rattle.flsm_core.specs.Place.{Place, all_of};
-    ghost use Rattle.flsm_core.specs.Standing.{IsAt, Leaves};
+    ghost use Rattle.disk_model.specs.Told.{told_by};
+    ghost use Rattle.flsm_core.specs.Place.{Place};
+    ghost use Rattle.flsm_core.specs.Standing.{IsAt, IsLeftBy};
     ghost use Rattle.flsm_core.specs.State.{state_journal};
 
     /// Gives the journal up. What waits is lost.
     pub fn close(self) -> J
-        ensures images { IsTrue J.tells → (p : Place) → IsAt J.Journal self p → IsTrue p.start.honest
-            → (image : Image) → J.may_leave result image → Leaves p.start.profile p.settled (all_of p) image }
-        ensures ever { IsTrue J.tells → (p : Place) → IsAt J.Journal self p → IsTrue p.start.honest → (image : Image)
-            → J.left_since result p.start.moment image → Leaves p.start.profile p.start.base (all_of p) image }
+        ensures left { IsTrue J.tells → (p : Place) → IsAt J.Journal self p → IsLeftBy p (told_by J.Journal result) }
         ensures journal { result ≡ state_journal self }
     {
         let State {

@@ -28,7 +28,7 @@ use Rattle.pebbles_cli.specs.Shows.{Has, IsKept, Shows, ShowsAll, RunsShow, Stop
 front_none : (bs : Batches) → IsFront bs bs
 front_none bs = ([], sym (append-nil bs))
 
-front_then : (a b c : Batches) → IsFront a b → IsFront b c → IsFront a c
+pub front_then : (a b c : Batches) → IsFront a b → IsFront b c → IsFront a c
 front_then a b c g h = (g.0 ++ h.0, h.1 ∙ ap (λ (x : Batches). x ++ h.0) g.1 ∙ append_assoc a g.0 h.0)
 
 -- the later place has the batches of the earlier one, settled ones first, and the maps at the numbers of then
@@ -38,10 +38,10 @@ pub record Grows (old new : Place) : Type 0 where
   pub last : last_number (all_of old) ≤ last_number (all_of new)
   pub maps : (n : ℕ) (key : Bytes) → n ≤ last_number (all_of old) → value_at (all_of new) n key ≡ value_at (all_of old) n key
 
-grows_none : (p : Place) → Grows p p
+pub grows_none : (p : Place) → Grows p p
 grows_none p = record { front = front_none (all_of p); settled = front_none p.settled; last = omega arith; maps = λ n key le. refl }
 
-grows_then : (a b c : Place) → Grows a b → Grows b c → Grows a c
+pub grows_then : (a b c : Place) → Grows a b → Grows b c → Grows a c
 grows_then a b c g h = record {
   front = front_then (all_of a) (all_of b) (all_of c) g.front h.front;
   settled = front_then a.settled b.settled c.settled g.settled h.settled;
@@ -61,10 +61,10 @@ grows_same old new same settled = record {
   maps = λ n key le. rw same refl;
 }
 
-grows_settled : (p : Place) → Grows p (all_settled p)
+pub grows_settled : (p : Place) → Grows p (all_settled p)
 grows_settled p = grows_same p (all_settled p) (append-nil (all_of p)) (p.waiting, refl)
 
-grows_halted : (p : Place) → Grows p (halted p)
+pub grows_halted : (p : Place) → Grows p (halted p)
 grows_halted p = grows_same p (halted p) refl (front_none p.settled)
 
 one_above : (n first : ℕ) (op : Op) → n < first → ordered_above n ((first, op ∷ []) ∷ []) ≡ true
@@ -74,7 +74,7 @@ one_above n first op lt =
     (and_from (nat_lt n first && true) (session_of first == session_of (first + 1 - 1)) (and_from (nat_lt n first) true (lt-ltb n first lt) refl) same) refl
 
 -- one more batch
-grows_push : (session : ℕ) (p : Place) (op : Op) → Grows p (with_batch session p (op ∷ []))
+pub grows_push : (session : ℕ) (p : Place) (op : Op) → Grows p (with_batch session p (op ∷ []))
 grows_push session p op =
     let n : ℕ = next_number session (all_of p) in
     let batch : ℕ × List Op = (n, op ∷ []) in
@@ -89,7 +89,7 @@ grows_push session p op =
 
 -- ---- a batch that is there
 
-has_later : (old new : Batches) (b : ℕ × List Op) → IsFront old new → Has old b → Has new b
+pub has_later : (old new : Batches) (b : ℕ × List Op) → IsFront old new → Has old b → Has new b
 has_later old new b front has = (has.0, has.1 ++ front.0, front.1 ∙ ap (λ (x : Batches). x ++ front.0) has.2 ∙ append_assoc has.0 (b ∷ has.1) front.0)
 
 kept_later : (old new : Place) (ops : List Op) (sync : Bool) (answer : Result ℕ WriteFault) → Grows old new → IsKept old ops sync answer → IsKept new ops sync answer
@@ -112,22 +112,22 @@ write_grows session p op sync (Err writes.Stopped) = grows_none p
 write_grows session p op sync (Err (writes.Limit kind n)) = grows_none p
 write_grows session p op sync (Err writes.Memory) = grows_none p
 
-has_pushed : (session : ℕ) (p : Place) (ops : List Op) (n : ℕ) → n ≡ next_number session (all_of p) → Has (all_of (with_batch session p ops)) (n, ops)
+pub has_pushed : (session : ℕ) (p : Place) (ops : List Op) (n : ℕ) → n ≡ next_number session (all_of p) → Has (all_of (with_batch session p ops)) (n, ops)
 has_pushed session p ops n is =
     let next : ℕ = next_number session (all_of p) in
     (all_of p, [], sym (append_assoc p.settled p.waiting ((next, ops) ∷ [])) ∙ ap (λ (m : ℕ). all_of p ++ (m, ops) ∷ []) (sym is))
 
 write_kept : (session : ℕ) (p : Place) (ops : List Op) (sync : Bool) (answer : Result ℕ WriteFault) → Writes session p ops sync answer → IsKept (after_write session p ops sync answer) ops sync answer
-write_kept session p ops true (Ok n) answers = has_pushed session p ops n answers.1
-write_kept session p ops false (Ok n) answers = has_pushed session p ops n answers.1
-write_kept session p ops sync (Err (writes.Unsynced n)) answers = has_pushed session p ops n answers.2
+write_kept session p ops true (Ok n) answers = has_pushed session p ops n answers.2
+write_kept session p ops false (Ok n) answers = has_pushed session p ops n answers.2
+write_kept session p ops sync (Err (writes.Unsynced n)) answers = has_pushed session p ops n answers.3
 write_kept session p ops sync (Err writes.Stopped) answers = tt
 write_kept session p ops sync (Err (writes.Limit kind n)) answers = tt
 write_kept session p ops sync (Err writes.Memory) answers = tt
 
 -- ---- one command
 
-one_grows : (session : ℕ) (old : Place) (command : Command) (text : List ℕ) (cause : Option Cause) (new : Place) → TellsOne session old command text cause new → Grows old new
+pub one_grows : (session : ℕ) (old : Place) (command : Command) (text : List ℕ) (cause : Option Cause) (new : Place) → TellsOne session old command text cause new → Grows old new
 one_grows session old (commands.Put key value sync) text cause new t =
     grows_is old (after_write session old (put_op key value ∷ []) sync t.answer) new t.leads (write_grows session old (put_op key value) sync t.answer)
 one_grows session old (commands.Get key) text cause new t = grows_is old old new t.leads (grows_none old)
@@ -173,19 +173,9 @@ shows_later session old (c ∷ cs) text cause failed new last t g =
 pub runs_show : RunsShow
 runs_show session old cs text cause failed new t = shows_later session old cs text cause failed new new t (grows_none new)
 
-sync_grows : (p : Place) (closing : Result ℕ SyncFault) → Grows p (after_sync p closing)
-sync_grows p (Ok n) = grows_settled p
-sync_grows p (Err syncs.Stopped) = grows_none p
-sync_grows p (Err syncs.Journal) = grows_halted p
-
--- the lines of commands show this of where the closing sync leads
-pub shows_closed : (session : ℕ) (old : Place) (cs : List Command) (text : List ℕ) (cause : Option Cause) (failed : Bool) (new : Place) (closing : Result ℕ SyncFault)
-    → Tells (TellsOne session) old cs text cause failed new → ShowsAll (after_sync new closing) cs text failed
-shows_closed session old cs text cause failed new closing t = shows_later session old cs text cause failed new (after_sync new closing) t (sync_grows new closing)
-
 -- ---- a store that the journal stopped
 
-stopped_write : (session : ℕ) (p : Place) (ops : List Op) (sync : Bool) (answer : Result ℕ WriteFault) → p.stopped ≡ true → Writes session p ops sync answer → answer ≡ Err writes.Stopped
+pub stopped_write : (session : ℕ) (p : Place) (ops : List Op) (sync : Bool) (answer : Result ℕ WriteFault) → p.stopped ≡ true → Writes session p ops sync answer → answer ≡ Err writes.Stopped
 stopped_write session p ops sync (Ok n) stopped answers = absurd cc
 stopped_write session p ops sync (Err (writes.Unsynced n)) stopped answers = absurd cc
 stopped_write session p ops sync (Err writes.Stopped) stopped answers = refl
@@ -237,33 +227,29 @@ run_goes_on session old (c ∷ cs) text cause failed new t running none =
 
 -- ---- what a run never changes
 
-write_honest : (session : ℕ) (p : Place) (ops : List Op) (sync : Bool) (answer : Result ℕ WriteFault) → (after_write session p ops sync answer).honest ≡ p.honest
-write_honest session p ops true (Ok n) = refl
-write_honest session p ops false (Ok n) = refl
-write_honest session p ops sync (Err (writes.Unsynced n)) = refl
-write_honest session p ops sync (Err writes.Stopped) = refl
-write_honest session p ops sync (Err (writes.Limit kind n)) = refl
-write_honest session p ops sync (Err writes.Memory) = refl
+write_start : (session : ℕ) (p : Place) (ops : List Op) (sync : Bool) (answer : Result ℕ WriteFault) → (after_write session p ops sync answer).start ≡ p.start
+write_start session p ops true (Ok n) = refl
+write_start session p ops false (Ok n) = refl
+write_start session p ops sync (Err (writes.Unsynced n)) = refl
+write_start session p ops sync (Err writes.Stopped) = refl
+write_start session p ops sync (Err (writes.Limit kind n)) = refl
+write_start session p ops sync (Err writes.Memory) = refl
 
-one_honest : (session : ℕ) (old : Place) (command : Command) (text : List ℕ) (cause : Option Cause) (new : Place) → TellsOne session old command text cause new → new.honest ≡ old.honest
-one_honest session old (commands.Put key value sync) text cause new t = ap (λ (p : Place). p.honest) t.leads ∙ write_honest session old (put_op key value ∷ []) sync t.answer
-one_honest session old (commands.Get key) text cause new t = ap (λ (p : Place). p.honest) t.leads
+one_start : (session : ℕ) (old : Place) (command : Command) (text : List ℕ) (cause : Option Cause) (new : Place) → TellsOne session old command text cause new → new.start ≡ old.start
+one_start session old (commands.Put key value sync) text cause new t = ap (λ (p : Place). p.start) t.leads ∙ write_start session old (put_op key value ∷ []) sync t.answer
+one_start session old (commands.Get key) text cause new t = ap (λ (p : Place). p.start) t.leads
 
-run_honest : (session : ℕ) (old : Place) (cs : List Command) (text : List ℕ) (cause : Option Cause) (failed : Bool) (new : Place) → Tells (TellsOne session) old cs text cause failed new → new.honest ≡ old.honest
+pub run_start : (session : ℕ) (old : Place) (cs : List Command) (text : List ℕ) (cause : Option Cause) (failed : Bool) (new : Place) → Tells (TellsOne session) old cs text cause failed new → new.start ≡ old.start
 unfolding Tells
-run_honest session old [] text cause failed new t = ap (λ (p : Place). p.honest) t.3
-run_honest session old (c ∷ cs) text cause failed new t =
-    let one = one_honest session old c t.0 t.1 t.2 t.3.0 in
+run_start session old [] text cause failed new t = ap (λ (p : Place). p.start) t.3
+run_start session old (c ∷ cs) text cause failed new t =
+    let one = one_start session old c t.0 t.1 t.2 t.3.0 in
     elim t.3.1 [
-      | inl more ↦ run_honest session t.2 cs more.0 more.1 failed new more.2.2 ∙ one
-      | inr cut ↦ ap (λ (p : Place). p.honest) cut.1.3 ∙ one
+      | inl more ↦ run_start session t.2 cs more.0 more.1 failed new more.2.2 ∙ one
+      | inr cut ↦ ap (λ (p : Place). p.start) cut.1.3 ∙ one
     ]
 
-sync_honest : (p : Place) (closing : Result ℕ SyncFault) → (after_sync p closing).honest ≡ p.honest
-sync_honest p (Ok n) = refl
-sync_honest p (Err syncs.Stopped) = refl
-sync_honest p (Err syncs.Journal) = refl
-
-pub closed_honest : (session : ℕ) (old : Place) (cs : List Command) (text : List ℕ) (cause : Option Cause) (failed : Bool) (new : Place) (closing : Result ℕ SyncFault)
-    → Tells (TellsOne session) old cs text cause failed new → (after_sync new closing).honest ≡ old.honest
-closed_honest session old cs text cause failed new closing t = sync_honest new closing ∙ run_honest session old cs text cause failed new t
+pub sync_start : (p : Place) (closing : Result ℕ SyncFault) → (after_sync p closing).start ≡ p.start
+sync_start p (Ok n) = refl
+sync_start p (Err syncs.Stopped) = refl
+sync_start p (Err syncs.Journal) = refl

@@ -1,57 +1,121 @@
 -- What an opening hands on of what the devices told.
-use Rattle.std.proofs.Common.{◌≡◌, ◌≢◌, ℕ, Bool, true, false, inr, sym, ◌∙◌, subst, arith}
+use Rattle.std.proofs.Common.{◌≡◌, ◌≢◌, ℕ, ◌≤◌, Bool, true, false, List, inl, inr, refl, sym, ap, ◌∙◌, subst, arith}
 use Rattle.peb_base.specs.Batches.{Batches}
-use Rattle.peb_base.specs.declared.profile.Profile.TheVariants.{Small}
-use Rattle.disk_model.specs.Images.{Image, Rose}
-use Rattle.disk_model.specs.Told.{TellsTheSame}
+use Rattle.peb_base.specs.declared.profile.Profile.{Profile}
+use Rattle.peb_base.specs.Faults.{Rose}
+use Rattle.disk_model.specs.Images.{Image, Elapses}
+use Rattle.disk_model.specs.Moments.{elapses_none}
+use Rattle.disk_model.specs.Told.{JournalTold, TablesTold, TellsTheSame, TablesStay}
 use Rattle.flsm_core.specs.declared.state.State.{State}
 use Rattle.flsm_core.specs.declared.open_fault.OpenFault.{OpenFault}
 use Rattle.flsm_core.specs.declared.open_fault.OpenFault.TheVariants as opens
 use Rattle.disk_model.specs.declared.journal.Journal.{Ghosts}
-use Rattle.flsm_core.specs.Place.{opened}
-use Rattle.flsm_core.specs.Logs.{Stands}
-use Rattle.flsm_core.specs.Standing.{IsAt}
-use Rattle.flsm_core.specs.Opening.{OpensOn, OpenCause}
+use Rattle.flsm_core.specs.Place.{Start, Place, opened, start_at, all_of}
+use Rattle.flsm_core.specs.Logs.{ReadsAs, Stands}
+use Rattle.flsm_core.specs.Standing.{IsAt, IsLeftBy}
+use Rattle.flsm_core.specs.Opening.{OpensOn, OpenCause, HasWatched}
+use Rattle.script.specs.declared.cause.Cause.{Cause}
 use Rattle.script.specs.declared.cause.Cause.TheVariants as causes
-use Rattle.pebbles_cli.specs.Causes.{RunCause, opening_cause}
+use Rattle.pebbles_cli.specs.Causes.{IsScript, OpeningCause, IsOpeningCause, RefusalCause, opening_cause}
+use Rattle.pebbles_cli.specs.Outside.{DevicesTold}
 
-pub same_then : {s0 s1 s2 : Image} {m0 m1 m2 : Image → Type 0} {t0 t1 t2 : ℕ} {l0 l1 l2 : ℕ → Image → Type 0} {f0 f1 f2 : ℕ}
-    → TellsTheSame s0 s1 m0 m1 t0 t1 l0 l1 f0 f1 → TellsTheSame s1 s2 m1 m2 t1 t2 l1 l2 f1 f2 → TellsTheSame s0 s2 m0 m2 t0 t2 l0 l2 f0 f2
-same_then a b = record {
-  bytes = b.bytes ∙ a.bytes;
-  images = λ image. (λ left. (a.images image).0 ((b.images image).0 left), λ left. (b.images image).1 ((a.images image).1 left));
-  time = b.time ∙ a.time;
-  past = λ t image. (λ left. (a.past t image).0 ((b.past t image).0 left), λ left. (b.past t image).1 ((a.past t image).1 left));
-  count = b.count ∙ a.count;
+pub same_then : {a b c : JournalTold} → TellsTheSame a b → TellsTheSame b c → TellsTheSame a c
+same_then x y = record {
+  bytes = y.bytes ∙ x.bytes;
+  images = λ image. (λ left. (x.images image).0 ((y.images image).0 left), λ left. (y.images image).1 ((x.images image).1 left));
+  time = y.time ∙ x.time;
+  past = λ t image. (λ left. (x.past t image).0 ((y.past t image).0 left), λ left. (y.past t image).1 ((x.past t image).1 left));
+  count = y.count ∙ x.count;
+  still_steady = λ steady. y.still_steady (x.still_steady steady);
 }
 
-pub opens_same : (honest : Bool) (base : Batches) (seen0 seen : Image) (may0 may : Image → Type 0) → seen ≡ seen0 → ((image : Image) → may image → may0 image)
-    → OpensOn honest base seen0 may0 → OpensOn honest base seen may
-opens_same true base seen0 seen may0 may bytes images on = λ image left. on image (images image left)
-opens_same false base seen0 seen may0 may bytes images on = subst (Stands base) (sym bytes) on
+pub tables_then : {a b c : TablesTold} → TablesStay a b → TablesStay b c → TablesStay a c
+tables_then x y = record {
+  there = y.there ∙ x.there;
+  left = y.left ∙ x.left;
+  done = y.done ∙ x.done;
+  count = y.count ∙ x.count;
+  still_steady = λ steady. y.still_steady (x.still_steady steady);
+}
 
--- the base of an opening is what is read
-pub opens_read : (honest : Bool) (base : Batches) (seen : Image) (may : Image → Type 0) → may seen → OpensOn honest base seen may → Stands base seen
-opens_read true base seen may left on = on seen left
-opens_read false base seen may left on = on
+pub tables_stay : (a : TablesTold) → TablesStay a a
+tables_stay a = record { there = refl; left = refl; done = refl; count = refl; still_steady = λ steady. steady }
 
-pub moved : {D : Type 0} {d : Ghosts D} {state : State D} (honest : Bool) (base : Batches) (a b : ℕ) → a ≡ b → IsAt d state (opened a honest base) → IsAt d state (opened b honest base)
-moved {D} {d} {state} honest base a b same at = subst (λ (t : ℕ). IsAt d state (opened t honest base)) same at
+-- what opens on what is told opens on the same told otherwise
+pub opens_same : (a b : JournalTold) (honest : Bool) (profile : Profile) (base : Batches) → TellsTheSame a b → OpensOn profile honest base a.seen a.may_leave → OpensOn profile honest base b.seen b.may_leave
+opens_same a b true profile base same on = λ image left. on image ((same.images image).0 left)
+opens_same a b false profile base same on = subst (ReadsAs profile base) (sym same.bytes) on
+
+-- where an opening began is told the same
+pub starts_same : (a b : JournalTold) (profile : Profile) (honest : Bool) (base : Batches) → TellsTheSame a b → start_at b profile honest base ≡ start_at a profile honest base
+starts_same a b profile honest base same = λ i. record { moment = same.time i; faults = same.count i; profile = profile; honest = honest; base = base }
+
+-- nothing was done
+pub watched_same : (a b : JournalTold) → ((t : ℕ) (image : Image) → t ≤ a.moment → a.may_leave image → a.left_since t image) → ((image : Image) → a.left_since a.moment image → a.may_leave image)
+    → TellsTheSame a b → HasWatched a b
+watched_same a b counts only same = record {
+  seen = same.bytes;
+  time = record {
+    later = omega (arith, same.time);
+    nothing_else = λ t image le left. inl ((same.past t image).0 left);
+    keeps = λ t image le left. (same.past t image).1 left;
+    counts = λ t image le left. (same.past t image).1 (counts t image le (only image ((same.past a.moment image).0 left)));
+  };
+  each = λ image left. only image ((same.past a.moment image).0 left);
+}
+
+-- the same is told before and after
+pub watched_between : (a b c d : JournalTold) → TellsTheSame a b → HasWatched b c → TellsTheSame c d → HasWatched a d
+watched_between a b c d first watched last = record {
+  seen = last.bytes ∙ watched.seen ∙ first.bytes;
+  time = record {
+    later = omega (arith, first.time, watched.time.later, last.time);
+    nothing_else = λ t image le left. elim (watched.time.nothing_else t image (omega (arith, le, first.time)) ((last.past t image).0 left)) [
+      | inl past ↦ inl ((first.past t image).0 past)
+      | inr since ↦ inr (moved since)
+    ];
+    keeps = λ t image le past. (last.past t image).1 (watched.time.keeps t image (omega (arith, le, first.time)) ((first.past t image).1 past));
+    counts = λ t image le left. (last.past t image).1 (watched.time.counts t image (omega (arith, le, first.time)) (back left));
+  };
+  each = λ image left. (first.images image).0 (watched.each image (back left));
+}
+  where
+    moved : {image : Image} → c.left_since b.moment image → d.left_since a.moment image
+    moved {image} left = (last.past a.moment image).1 (subst (λ (t : ℕ). c.left_since t image) first.time left)
+
+    back : {image : Image} → d.left_since a.moment image → c.left_since b.moment image
+    back {image} left = subst (λ (t : ℕ). c.left_since t image) (sym first.time) ((last.past a.moment image).0 left)
+
+-- what was left is told the same
+pub left_same : (p : Place) (a b : JournalTold) → TellsTheSame a b → IsLeftBy p a → IsLeftBy p b
+left_same p a b same left = record {
+  now = λ honest image here. left.now honest image ((same.images image).0 here);
+  ever = λ honest image here. left.ever honest image ((same.past p.start.moment image).0 here);
+}
 
 pub rose_same : (a b c d : ℕ) → a ≡ b → d ≡ c → Rose a c → Rose b d
 rose_same a b c d ab dc rose = omega (arith, ab, dc, rose)
 
--- the cause of an opening's fault
-pub opening_is : (fault : OpenFault) (rose journal sinks client : Type 0) (tells : Bool) (seen : Image) → (rose → journal) → OpenCause rose tells seen Small fault → RunCause journal sinks client tells seen (opening_cause fault)
-opening_is opens.Journal rose journal sinks client tells seen up cause = up cause
-opening_is (opens.Damaged file at) rose journal sinks client tells seen up cause = cause
-opening_is (opens.Profile have asked) rose journal sinks client tells seen up cause = cause
-opening_is (opens.Limit kind n) rose journal sinks client tells seen up cause = inr cause
-opening_is opens.Memory rose journal sinks client tells seen up cause = tt
+-- ---- causes
 
-pub opening_is_fault : (fault : OpenFault) → opening_cause fault ≢ causes.Done
-opening_is_fault opens.Journal = λ e. absurd cc
-opening_is_fault (opens.Damaged file at) = λ e. absurd cc
-opening_is_fault (opens.Profile have asked) = λ e. absurd cc
-opening_is_fault (opens.Limit kind n) = λ e. absurd cc
-opening_is_fault opens.Memory = λ e. absurd cc
+-- the same fault, where the journal's count rose for another reason
+pub open_weaker : (fault : OpenFault) (P Q : Type 0) (tells : Bool) (seen seen' : Image) (profile : Profile) → seen' ≡ seen → (P → Q) → OpenCause P tells seen profile fault → OpenCause Q tells seen' profile fault
+open_weaker opens.Journal P Q tells seen seen' profile same up cause = up cause
+open_weaker (opens.Damaged file at) P Q tells seen seen' profile same up cause = subst (λ (i : Image). OpenCause Q tells i profile (opens.Damaged file at)) (sym same) cause
+open_weaker (opens.Profile have asked) P Q tells seen seen' profile same up cause = subst (λ (i : Image). OpenCause Q tells i profile (opens.Profile have asked)) (sym same) cause
+open_weaker (opens.Limit kind n) P Q tells seen seen' profile same up cause = subst (λ (i : Image). OpenCause Q tells i profile (opens.Limit kind n)) (sym same) cause
+open_weaker opens.Memory P Q tells seen seen' profile same up cause = tt
+
+pub opening_journal : (fault : OpenFault) → opening_cause fault ≢ causes.Journal → fault ≢ opens.Journal
+opening_journal fault other is = other (ap opening_cause is)
+
+-- why no command is run, by why no store is opened
+pub refusal_of : (text : Option (List ℕ)) (old new : DevicesTold) (cause : Cause) → IsScript text → IsOpeningCause old new cause → RefusalCause text old new cause
+refusal_of text old new cause script is = subst (RefusalCause text old new) (sym is.tells) (by is.fault is.when)
+  where
+    by : (fault : OpenFault) → OpeningCause old new fault → RefusalCause text old new (opening_cause fault)
+    by opens.Journal when = (script, when)
+    by (opens.Damaged file at) when = (script, when)
+    by (opens.Profile have asked) when = (script, when)
+    by (opens.Limit kind n) when = inr (script, when)
+    by opens.Memory when = tt

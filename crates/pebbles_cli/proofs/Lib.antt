@@ -1,6 +1,6 @@
 pub mod Growing
 pub mod Handing
-pub mod Naming
+pub mod Numbering
 pub mod Playing
 pub mod Reading
 pub mod Running

@@ -1,36 +1,41 @@
 -- A run from its opening to its report.
-use Rattle.std.proofs.Common.{◌≡◌, ◌≢◌, ℕ, Bool, true, false, IsTrue, List, [], ◌∷◌, ◌++◌, take, Option, Some, None, Result, Ok, Err, refl, sym, ap, ◌∙◌, subst, inl, inr}
-use Rattle.std.specs.Prelude.{IsErrOf}
+use Rattle.std.proofs.Common.{◌≡◌, ◌≢◌, ◌⊎◌, ℕ, Bool, true, false, IsTrue, List, [], ◌∷◌, ◌++◌, take, Option, Some, None, Result, Ok, Err, refl, sym, ap, ◌∙◌, subst, inl, inr, arith}
 use Rattle.std.specs.Result.{is_err}
 use Rattle.std.specs.Option.{option_or, unwrap_or}
 use Rattle.std.proofs.lemmas.Bool.{true≢false}
-use Rattle.std.proofs.lemmas.List.{append-nil}
 use Rattle.peb_base.specs.Batches.{Batches, last_number}
+use Rattle.peb_base.specs.Faults.{Rose}
 use Rattle.disk_model.specs.declared.failed.Failed.{Failed}
 use Rattle.disk_model.specs.Bytes.{Takes, IsFresh}
-use Rattle.disk_model.specs.Images.{Image}
+use Rattle.disk_model.specs.Told.{TablesStay}
 use Rattle.script.specs.declared.cause.Cause.{Cause}
 use Rattle.script.specs.declared.cause.Cause.TheVariants as causes
-use Rattle.script.specs.declared.command.Command.{Command}
 use Rattle.script.specs.Report.{report_text}
 use Rattle.flsm_core.specs.declared.sync_fault.SyncFault.{SyncFault}
 use Rattle.flsm_core.specs.declared.sync_fault.SyncFault.TheVariants as syncs
-use Rattle.flsm_core.specs.Place.{Place, all_of, after_sync, Syncs}
-use Rattle.flsm_core.specs.Logs.{Stands}
-use Rattle.flsm_core.specs.Standing.{Leaves}
-use Rattle.flsm_core.specs.Opening.{OpensOn}
-use Rattle.pebbles_cli.specs.Tells.{Tells, TellsOne, TookMore, sync_cause}
-use Rattle.pebbles_cli.specs.Causes.{LineCause, ReportCause, RunCause, sink_cause, end_of}
-use Rattle.pebbles_cli.specs.Top.{IsTaken, Reports, IsDone, Ran, NotRun, run_report}
-use Rattle.pebbles_cli.proofs.Serving.{took_none, took_more, took_front}
-use Rattle.pebbles_cli.proofs.Growing.{shows_closed, run_goes_on, closed_honest}
+use Rattle.flsm_core.specs.Place.{Start, Place, all_of, after_sync, Syncs}
+use Rattle.pebbles_cli.specs.declared.served.Served.{Served}
+use Rattle.pebbles_cli.specs.Causes.{IsScript, JournalRose, LineCause, ReportCause, SinkCause, PlayCause, RefusalCause, sink_cause, end_of}
+use Rattle.pebbles_cli.specs.Outside.{DevicesTold, SinksTold, Outside}
+use Rattle.pebbles_cli.specs.Tells.{TookMore, sync_cause}
+use Rattle.pebbles_cli.specs.Top.{Asked, Run, Went, IsTaken, IsAnswered, IsUnheard, IsServed, Closed, IsClosed, IsDone, Ran, NotOpened, Plays, Reports, run_report}
+use Rattle.pebbles_cli.proofs.Serving.{took_none, took_more, took_front, rose_later}
+use Rattle.pebbles_cli.proofs.Growing.{run_goes_on, run_start, sync_start}
+use Rattle.pebbles_cli.proofs.Numbering.{run_told, weaker}
 
 -- ---- the closing sync and the report
 
-pub sync_line_cause : (answer : Result ℕ SyncFault) (rose : Type 0) → (IsErrOf answer syncs.Journal → rose) → LineCause rose (sync_cause answer)
-sync_line_cause (Ok n) rose cause = tt
-sync_line_cause (Err syncs.Stopped) rose cause = tt
-sync_line_cause (Err syncs.Journal) rose cause = cause refl
+-- a closing sync tells a fault of the journal only where it stopped the store
+pub sync_told : (p : Place) (answer : Result ℕ SyncFault) → LineCause ((after_sync p answer).stopped ≡ true) (sync_cause answer)
+sync_told p (Ok n) = tt
+sync_told p (Err syncs.Stopped) = tt
+sync_told p (Err syncs.Journal) = refl
+
+-- a store that was stopped before its closing sync is stopped after it
+pub sync_stays : (p : Place) (answer : Result ℕ SyncFault) → Syncs p answer → p.stopped ≡ true → (after_sync p answer).stopped ≡ true
+sync_stays p (Ok n) syncs stopped = absurd (true≢false (sym stopped ∙ syncs.0))
+sync_stays p (Err syncs.Stopped) syncs stopped = stopped
+sync_stays p (Err syncs.Journal) syncs stopped = refl
 
 pub is_report : (text : List ℕ) (last : ℕ) → text ≡ report_text last 3 → text ≡ run_report last
 unfolding run_report
@@ -45,56 +50,82 @@ report_whole old new text whole r same fine takes = subst (λ (t : List ℕ). To
 
 -- ---- the cause of a run
 
-line_run : (cause : Cause) (journal sinks client : Type 0) (tells : Bool) (seen : Image) → LineCause journal (Some cause) → RunCause journal sinks client tells seen cause
-line_run causes.Journal journal sinks client tells seen line = line
-line_run causes.Memory journal sinks client tells seen line = tt
-line_run (causes.Limit kind n) journal sinks client tells seen line = inl line
-line_run causes.Done journal sinks client tells seen line = absurd line
-line_run causes.Usage journal sinks client tells seen line = absurd line
-line_run (causes.Script i at why) journal sinks client tells seen line = absurd line
-line_run (causes.Damaged file at) journal sinks client tells seen line = absurd line
-line_run (causes.Profile have asked) journal sinks client tells seen line = absurd line
-line_run (causes.Sink i) journal sinks client tells seen line = absurd line
-line_run (causes.Source i) journal sinks client tells seen line = absurd line
+line_run : (text : Option (List ℕ)) (old new : Outside) (cause : Cause) → IsScript text → LineCause (JournalRose old.devices new.devices) (Some cause) → PlayCause text old new cause
+line_run text old new causes.Journal script line = (script, line)
+line_run text old new causes.Memory script line = tt
+line_run text old new (causes.Limit kind n) script line = inr (script, inl line)
+line_run text old new causes.Done script line = absurd line
+line_run text old new causes.Usage script line = absurd line
+line_run text old new (causes.Script i at why) script line = absurd line
+line_run text old new (causes.Damaged file at) script line = absurd line
+line_run text old new (causes.Profile have asked) script line = absurd line
+line_run text old new (causes.Sink i) script line = absurd line
+line_run text old new (causes.Source i) script line = absurd line
 
-report_run : (cause : Cause) (journal sinks client : Type 0) (tells : Bool) (seen : Image) → ReportCause sinks (Some cause) → RunCause journal sinks client tells seen cause
-report_run causes.Memory journal sinks client tells seen report = tt
-report_run (causes.Sink i) journal sinks client tells seen report = inl report
-report_run causes.Journal journal sinks client tells seen report = absurd report
-report_run (causes.Limit kind n) journal sinks client tells seen report = absurd report
-report_run causes.Done journal sinks client tells seen report = absurd report
-report_run causes.Usage journal sinks client tells seen report = absurd report
-report_run (causes.Script i at why) journal sinks client tells seen report = absurd report
-report_run (causes.Damaged file at) journal sinks client tells seen report = absurd report
-report_run (causes.Profile have asked) journal sinks client tells seen report = absurd report
-report_run (causes.Source i) journal sinks client tells seen report = absurd report
+report_run : (text : Option (List ℕ)) (old new : Outside) (cause : Cause) → IsScript text → ReportCause (Rose old.sinks.faults new.sinks.faults) (Some cause) → PlayCause text old new cause
+report_run text old new causes.Memory script report = tt
+report_run text old new (causes.Sink i) script report = (script, inl report)
+report_run text old new causes.Journal script report = absurd report
+report_run text old new (causes.Limit kind n) script report = absurd report
+report_run text old new causes.Done script report = absurd report
+report_run text old new causes.Usage script report = absurd report
+report_run text old new (causes.Script i at why) script report = absurd report
+report_run text old new (causes.Damaged file at) script report = absurd report
+report_run text old new (causes.Profile have asked) script report = absurd report
+report_run text old new (causes.Source i) script report = absurd report
 
-end_cause : (fault : Option Cause) (failed : Bool) (closing report : Option Cause) (journal sinks client : Type 0) (tells : Bool) (seen : Image)
-    → LineCause journal fault → (IsTrue failed → client) → LineCause journal closing → ReportCause sinks report → RunCause journal sinks client tells seen (end_of fault failed closing report)
-end_cause (Some cause) failed closing report journal sinks client tells seen line sink close last = line_run cause journal sinks client tells seen line
-end_cause None true closing report journal sinks client tells seen line sink close last = inr (refl, inr (sink refl))
-end_cause None false (Some cause) report journal sinks client tells seen line sink close last = line_run cause journal sinks client tells seen close
-end_cause None false None (Some cause) journal sinks client tells seen line sink close last = report_run cause journal sinks client tells seen last
-end_cause None false None None journal sinks client tells seen line sink close last = tt
+end_cause : (text : Option (List ℕ)) (old new : Outside) (fault : Option Cause) (failed : Bool) (closing report : Option Cause) → IsScript text
+    → LineCause (JournalRose old.devices new.devices) fault → (IsTrue failed → SinkCause old.sinks new.sinks 1) → LineCause (JournalRose old.devices new.devices) closing
+    → ReportCause (Rose old.sinks.faults new.sinks.faults) report → PlayCause text old new (end_of fault failed closing report)
+end_cause text old new (Some cause) failed closing report script line sink close last = line_run text old new cause script line
+end_cause text old new None true closing report script line sink close last = (script, sink refl)
+end_cause text old new None false (Some cause) report script line sink close last = line_run text old new cause script close
+end_cause text old new None false None (Some cause) script line sink close last = report_run text old new cause script last
+end_cause text old new None false None None script line sink close last = script
 
-pub ended_cause : (cause : Cause) (fault : Option Cause) (failed : Bool) (closing report : Option Cause) (journal sinks client : Type 0) (tells : Bool) (seen : Image) → cause ≡ end_of fault failed closing report
-    → LineCause journal fault → (IsTrue failed → client) → LineCause journal closing → ReportCause sinks report → RunCause journal sinks client tells seen cause
-ended_cause cause fault failed closing report journal sinks client tells seen ends line sink close last =
-    subst (RunCause journal sinks client tells seen) (sym ends) (end_cause fault failed closing report journal sinks client tells seen line sink close last)
+-- the first fault of the commands
+served_told : (run : Run) (old new : SinksTold) (went : Went) → IsServed run old new went → LineCause (went.place.stopped ≡ true) went.served.fault
+served_told run old new went (inl answered) = run_told run.session run.start run.commands went.text went.served.fault went.served.sink_failed went.place answered.told
+served_told run old new went (inr unheard) = subst (λ (s : Served). LineCause (went.place.stopped ≡ true) s.fault) (sym unheard.served) tt
 
-pub run_weaker : (cause : Cause) (journal journal' sinks sinks' client : Type 0) (tells : Bool) (seen : Image) → (journal → journal') → (sinks → sinks')
-    → RunCause journal sinks client tells seen cause → RunCause journal' sinks' client tells seen cause
-run_weaker causes.Done journal journal' sinks sinks' client tells seen j s run = tt
-run_weaker causes.Journal journal journal' sinks sinks' client tells seen j s run = j run
-run_weaker causes.Memory journal journal' sinks sinks' client tells seen j s run = tt
-run_weaker (causes.Limit kind n) journal journal' sinks sinks' client tells seen j s run = run
-run_weaker (causes.Damaged file at) journal journal' sinks sinks' client tells seen j s run = run
-run_weaker (causes.Profile have asked) journal journal' sinks sinks' client tells seen j s run = run
-run_weaker (causes.Sink i) journal journal' sinks sinks' client tells seen j s run =
-    elim run [ inl report ↦ inl (report.0, s report.1) | inr one ↦ inr (one.0, elim one.1 [ inl all ↦ inl (s all) | inr own ↦ inr own ]) ]
-run_weaker causes.Usage journal journal' sinks sinks' client tells seen j s run = absurd run
-run_weaker (causes.Script i at why) journal journal' sinks sinks' client tells seen j s run = absurd run
-run_weaker (causes.Source i) journal journal' sinks sinks' client tells seen j s run = absurd run
+-- the sink failed, or couldn't be opened
+sink_told : (run : Run) (old new : SinksTold) (went : Went) → IsServed run old new went → IsTrue went.served.sink_failed → SinkCause old new 1
+sink_told run old new went (inl answered) failed = inr (refl, inr (answered.failed failed))
+sink_told run old new went (inr unheard) failed = inr (refl, inl unheard.cause)
+
+pub ran_cause : (start : Start) (asked : Asked) (old new : Outside) (cause : Cause) → start.faults ≡ old.devices.journal.faults → Ran start asked old new cause → PlayCause asked.text old new cause
+ran_cause start asked old new cause counted ran =
+    let closing = ran.closing in
+    let rose : ran.closed.place.stopped ≡ true → JournalRose old.devices new.devices = λ stopped.
+    inr (subst (λ (n : ℕ). Rose n new.devices.journal.faults) (ap (λ (s : Start). s.faults) ran.starts ∙ counted) (closing.halted stopped)) in
+    let stays : ran.went.place.stopped ≡ true → JournalRose old.devices new.devices = λ stopped.
+    rose (ap (λ (p : Place). p.stopped) closing.leads ∙ sync_stays ran.went.place ran.closed.answer closing.closes stopped) in
+    let synced : (after_sync ran.went.place ran.closed.answer).stopped ≡ true → JournalRose old.devices new.devices = λ stopped.
+    rose (ap (λ (p : Place). p.stopped) closing.leads ∙ stopped) in
+    subst (PlayCause asked.text old new) (sym ran.ends)
+    (end_cause asked.text old new ran.went.served.fault ran.went.served.sink_failed (sync_cause ran.closed.answer) ran.closed.report
+    (ran.short, (ran.commands, ran.says))
+    (weaker ran.went.served.fault (ran.went.place.stopped ≡ true) (JournalRose old.devices new.devices) stays (served_told _ old.sinks new.sinks ran.went ran.served))
+    (sink_told _ old.sinks new.sinks ran.went ran.served)
+    (weaker (sync_cause ran.closed.answer) ((after_sync ran.went.place ran.closed.answer).stopped ≡ true) (JournalRose old.devices new.devices) synced (sync_told ran.went.place ran.closed.answer))
+    closing.report_cause)
+
+refused_cause : (text : Option (List ℕ)) (old new : Outside) (cause : Cause) → RefusalCause text old.devices new.devices cause → PlayCause text old new cause
+refused_cause text old new (causes.Source i) why = why
+refused_cause text old new (causes.Script i line why) is = is
+refused_cause text old new (causes.Limit kind n) (inl script) = inl script
+refused_cause text old new (causes.Limit kind n) (inr opening) = inr (opening.0, inr opening.1)
+refused_cause text old new causes.Journal why = why
+refused_cause text old new (causes.Damaged file at) why = why
+refused_cause text old new (causes.Profile have asked) why = why
+refused_cause text old new causes.Memory why = tt
+refused_cause text old new causes.Done why = absurd why
+refused_cause text old new causes.Usage why = absurd why
+refused_cause text old new (causes.Sink i) why = absurd why
+
+pub plays_cause : (start : Start) (asked : Asked) (old new : Outside) (cause : Cause) → start.faults ≡ old.devices.journal.faults → Plays start asked old new cause → PlayCause asked.text old new cause
+plays_cause start asked old new cause counted (inl not) = refused_cause asked.text old new cause not.why
+plays_cause start asked old new cause counted (inr ran) = ran_cause start asked old new cause counted ran
 
 -- ---- status 0
 
@@ -118,26 +149,41 @@ nothing_waits answered (Ok n) running closes none = refl
 nothing_waits answered (Err syncs.Stopped) running closes none = absurd (true≢false (sym closes ∙ running))
 nothing_waits answered (Err syncs.Journal) running closes none = absurd cc
 
-is_done : (session : ℕ) (start answered : Place) (commands : List Command) (text : List ℕ) (fault : Option Cause) (failed : Bool) (closing : Result ℕ SyncFault) (report : Option Cause) (rose1 rose2 rose3 : Type 0)
-    → start.stopped ≡ false → Tells (TellsOne session) start commands text fault failed answered → Syncs answered closing
-    → LineCause rose1 fault → LineCause rose2 (sync_cause closing) → ReportCause rose3 report
-    → end_of fault failed (sync_cause closing) report ≡ causes.Done → IsDone fault failed report (after_sync answered closing)
-is_done session start answered commands text fault failed closing report rose1 rose2 rose3 running told closes line close last e =
-    let rest1 = option_or (sink_cause failed) (option_or (sync_cause closing) report) in
-    let no_fault : fault ≡ None = no_line fault rest1 rose1 line e in
+-- a store that was served without a fault isn't stopped
+served_on : (run : Run) (old new : SinksTold) (went : Went) → IsServed run old new went → run.start.stopped ≡ false → went.served.fault ≡ None → went.served.sink_failed ≡ false → went.place.stopped ≡ false
+served_on run old new went (inl answered) running none taken = run_goes_on run.session run.start run.commands went.text went.served.fault went.served.sink_failed went.place answered.told running none
+served_on run old new went (inr unheard) running none taken = absurd (true≢false (sym (ap (λ (s : Served). s.sink_failed) unheard.served) ∙ taken))
+
+pub is_done : (run : Run) (old new : Outside) (went : Went) (closed : Closed) → IsServed run old.sinks new.sinks went → run.start.stopped ≡ false → IsClosed went.place old new closed
+    → end_of went.served.fault went.served.sink_failed (sync_cause closed.answer) closed.report ≡ causes.Done → IsDone went closed
+is_done run old new went closed served running closing e =
+    let fault = went.served.fault in
+    let failed = went.served.sink_failed in
+    let synced = sync_cause closed.answer in
+    let rest1 = option_or (sink_cause failed) (option_or synced closed.report) in
+    let no_fault : fault ≡ None = no_line fault rest1 _ (served_told run old.sinks new.sinks went served) e in
     let e1 = rest_done fault rest1 no_fault e in
-    let taken : failed ≡ false = no_sink failed (option_or (sync_cause closing) report) e1 in
-    let e2 = rest_done (sink_cause failed) (option_or (sync_cause closing) report) (ap sink_cause taken) e1 in
-    let no_close : sync_cause closing ≡ None = no_line (sync_cause closing) report rose2 close e2 in
-    let e3 = rest_done (sync_cause closing) report no_close e2 in
+    let taken : failed ≡ false = no_sink failed (option_or synced closed.report) e1 in
+    let e2 = rest_done (sink_cause failed) (option_or synced closed.report) (ap sink_cause taken) e1 in
+    let no_close : synced ≡ None = no_line synced closed.report _ (sync_told went.place closed.answer) e2 in
+    let e3 = rest_done synced closed.report no_close e2 in
     record {
       no_fault = no_fault;
       all_taken = taken;
-      reported = no_report report rose3 last e3;
-      settled = nothing_waits answered closing (run_goes_on session start commands text fault failed answered told running no_fault) closes no_close;
+      reported = no_report closed.report _ closing.report_cause e3;
+      settled = ap (λ (p : Place). p.waiting) closing.leads
+          ∙ nothing_waits went.place closed.answer (served_on run old.sinks new.sinks went served running no_fault taken) closing.closes no_close;
     }
 
-taken_all : (fresh taken took : Option (List ℕ)) (text : List ℕ) → IsFresh fresh → TookMore fresh text taken → took ≡ taken → IsTaken took text
+-- the commands and the closing leave what the opening began with
+pub starts_of : (run : Run) (old new : Outside) (went : Went) (closed : Closed) → IsServed run old.sinks new.sinks went → IsClosed went.place old new closed → closed.place.start ≡ run.start.start
+starts_of run old new went closed (inl answered) closing =
+    ap (λ (p : Place). p.start) closing.leads ∙ sync_start went.place closed.answer
+    ∙ run_start run.session run.start run.commands went.text went.served.fault went.served.sink_failed went.place answered.told
+starts_of run old new went closed (inr unheard) closing =
+    ap (λ (p : Place). p.start) closing.leads ∙ sync_start went.place closed.answer ∙ ap (λ (p : Place). p.start) unheard.place
+
+pub taken_all : (fresh taken took : Option (List ℕ)) (text : List ℕ) → IsFresh fresh → TookMore fresh text taken → took ≡ taken → IsTaken took text
 taken_all fresh taken None text unused more same = tt
 taken_all None None (Some t) text unused more same = absurd cc
 taken_all None (Some s) (Some t) text unused more same = absurd cc
@@ -146,63 +192,3 @@ taken_all (Some f) (Some s) (Some t) text unused more same =
     let one : t ≡ s = cc in
     let two : s ≡ f ++ text = cc in
     one ∙ two ∙ ap (λ (x : List ℕ). x ++ text) unused
-
--- all that a run of commands was
-pub ran_from : (tells : Bool) (session : ℕ) (start answered : Place) (commands : List Command) (text : List ℕ) (fault : Option Cause) (failed : Bool) (closing : Result ℕ SyncFault) (told_closing report : Option Cause)
-    (n : ℕ) (fresh taken took reported0 reported1 reported : Option (List ℕ)) (may_leave : Image → Type 0) (cause : Cause) (rose1 rose2 rose3 : Type 0)
-    → start.stopped ≡ false → Tells (TellsOne session) start commands text fault failed answered → Syncs answered closing → told_closing ≡ sync_cause closing
-    → LineCause rose1 fault → LineCause rose2 told_closing → ReportCause rose3 report
-    → IsFresh fresh → TookMore fresh text taken → took ≡ taken → n ≡ last_number (all_of (after_sync answered closing)) → reported1 ≡ reported0 → Reports n report reported1 reported
-    → cause ≡ end_of fault failed told_closing report
-    → (IsTrue tells → IsTrue (after_sync answered closing).honest → (image : Image) → may_leave image → Leaves (after_sync answered closing).settled (all_of (after_sync answered closing)) image)
-    → Ran tells session start commands took reported0 reported may_leave cause
-ran_from tells session start answered commands text fault failed closing told_closing report n fresh taken took reported0 reported1 reported may_leave cause rose1 rose2 rose3
-    running told closes closed line close last unused more same count kept reports ends left =
-    let ends' : cause ≡ end_of fault failed (sync_cause closing) report = ends ∙ ap (λ (o : Option Cause). end_of fault failed o report) closed in
-    record {
-      text = text;
-      fault = fault;
-      failed = failed;
-      answered = answered;
-      closing = closing;
-      last = after_sync answered closing;
-      report = report;
-      told = told;
-      closes = closes;
-      leads = refl;
-      taken = taken_all fresh taken took text unused more same;
-      shown = shows_closed session start commands text fault failed answered closing told;
-      reports = subst (λ (m : ℕ). Reports m report reported0 reported) count (subst (λ (r : Option (List ℕ)). Reports n report r reported) kept reports);
-      ends = ends';
-      done = λ done. is_done session start answered commands text fault failed closing report rose1 rose2 rose3 running told closes line (subst (LineCause rose2) closed close) last (sym ends' ∙ done);
-      left = λ know honest. left know (closed_honest session start commands text fault failed answered closing told ∙ honest);
-    }
-
--- ---- a run that didn't begin
-
-pub not_run : {uses : Bool → Type 0} (honest : Bool) (base : Batches) (took took' reported reported' : Option (List ℕ)) (may_leave : Image → Type 0) (cause : Cause) → cause ≢ causes.Done → took' ≡ took → reported' ≡ reported → uses false
-    → (IsTrue honest → (image : Image) → may_leave image → Stands base image) → NotRun uses honest base took took' reported reported' may_leave cause
-not_run honest base took took' reported reported' may_leave cause fault one two names left = record { fault = fault; no_reply = one; no_report = two; names = names; left = left }
-
-pub memory_is_fault : causes.Memory ≢ causes.Done
-memory_is_fault = λ e. absurd cc
-
-pub sink_is_fault : causes.Sink 1 ≢ causes.Done
-sink_is_fault = λ e. absurd cc
-
-pub honest_opens : (honest : Bool) (base : Batches) (seen : Image) (may : Image → Type 0) → IsTrue honest → OpensOn honest base seen may → OpensOn true base seen may
-honest_opens true base seen may is on = on
-honest_opens false base seen may is on = absurd (true≢false (sym is))
-
-no_rest : (xs ys zs : Batches) → xs ≡ (xs ++ ys) ++ zs → ys ≡ []
-no_rest [] [] zs e = refl
-no_rest [] (y ∷ ys) zs e = absurd cc
-no_rest (x ∷ xs) ys zs e = no_rest xs ys zs cc
-
--- right after an opening a crash leaves the base
-pub leaves_base : (base : Batches) (image : Image) → Leaves base (base ++ []) image → Stands base image
-leaves_base base image left =
-    let whole : base ≡ (base ++ left.enough.0) ++ left.within.0 = sym (append-nil base) ∙ left.within.1 ∙ ap (λ (x : Batches). x ++ left.within.0) left.enough.1 in
-    let none = no_rest base left.enough.0 left.within.0 whole in
-    let same : left.batches ≡ base = left.enough.1 ∙ ap (λ (x : Batches). base ++ x) none ∙ append-nil base in
-    subst (λ (x : Batches). Stands x image) same left.stands

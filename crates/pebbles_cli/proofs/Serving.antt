@@ -73,34 +73,10 @@ took_front (Some t) (Some m) new sofar bytes (Err e) f a b =
     let same : m ≡ t ++ sofar = cc in
     (b.0, b.1 ∙ ap Some (rw same (append_assoc t sofar (take b.0 bytes))))
 
--- ---- the first fault that lines tell
-
-pub weaker : (cause : Option Cause) (P Q : Type 0) → (P → Q) → LineCause P cause → LineCause Q cause
-weaker None P Q f h = tt
-weaker (Some causes.Journal) P Q f h = f h
-weaker (Some causes.Memory) P Q f h = tt
-weaker (Some (causes.Limit kind n)) P Q f h = h
-weaker (Some causes.Done) P Q f h = absurd h
-weaker (Some causes.Usage) P Q f h = absurd h
-weaker (Some (causes.Script i line why)) P Q f h = absurd h
-weaker (Some (causes.Damaged file at)) P Q f h = absurd h
-weaker (Some (causes.Profile have asked)) P Q f h = absurd h
-weaker (Some (causes.Sink i)) P Q f h = absurd h
-weaker (Some (causes.Source i)) P Q f h = absurd h
-
-chosen : (cause told : Option Cause) (P : Type 0) → LineCause P cause → LineCause P told → LineCause P (option_or cause told)
-chosen None told P a b = b
-chosen (Some x) told P a b = a
+-- ---- the sink's faults
 
 pub rose_later : (a b c : ℕ) → a ≤ b → Rose b c → Rose a c
 rose_later a b c ab rose = omega arith
-
-pub rose_still : (a b c : ℕ) → b ≤ c → Rose a b → Rose a c
-rose_still a b c bc rose = omega arith
-
-pub journal_more : (cause told : Option Cause) (a b c : ℕ) → a ≤ b → b ≤ c → LineCause (Rose a b) cause → LineCause (Rose b c) told → LineCause (Rose a c) (option_or cause told)
-journal_more cause told a b c ab bc first later =
-    chosen cause told (Rose a c) (weaker cause (Rose a b) (Rose a c) (rose_still a b c bc) first) (weaker told (Rose b c) (Rose a c) (rose_later a b c ab) later)
 
 -- ---- a step of the loop
 

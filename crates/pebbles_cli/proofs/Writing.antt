@@ -1,15 +1,12 @@
 -- Where a write leads, by the store's answers.
 use Rattle.std.proofs.Common.{◌≡◌, ℕ, Bool, true, List, Result, Ok, Err, refl, sym, subst, inl, inr}
 use Rattle.peb_base.specs.declared.op.Op.{Op}
-use Rattle.peb_base.specs.declared.limit_kind.LimitKind.{LimitKind}
 use Rattle.flsm_core.specs.declared.commit_fault.CommitFault.{CommitFault}
 use Rattle.flsm_core.specs.declared.commit_fault.CommitFault.TheVariants as commits
-use Rattle.flsm_core.specs.Place.{Place, with_batch, Puts, PassesLimit}
+use Rattle.flsm_core.specs.Place.{Place, with_batch, Puts}
 use Rattle.pebbles_cli.specs.declared.write_fault.WriteFault.{WriteFault}
 use Rattle.pebbles_cli.specs.declared.write_fault.WriteFault.TheVariants as writes
-use Rattle.pebbles_cli.specs.Writes.{refused, after_write, Writes, OnUnsynced, after_stable, IsStable}
-use Rattle.pebbles_cli.specs.Tells.{write_cause}
-use Rattle.pebbles_cli.specs.Causes.{IsWriteLimit, LineCause}
+use Rattle.pebbles_cli.specs.Writes.{refused, after_write, Writes, after_stable, IsStable}
 
 -- a refused put is a refused write
 pub refused_leads : (session : ℕ) (p : Place) (ops : List Op) (sync : Bool) (fault : CommitFault) → after_write session p ops sync (Err (refused fault)) ≡ p
@@ -21,11 +18,6 @@ pub refused_answers : (session : ℕ) (p : Place) (ops : List Op) (sync : Bool) 
 refused_answers session p ops sync commits.Stopped puts = puts
 refused_answers session p ops sync (commits.Limit kind n) puts = puts
 refused_answers session p ops sync commits.Memory puts = puts
-
-pub refused_cause : (fault : CommitFault) (P : Type 0) → OnUnsynced (Err (refused fault)) P
-refused_cause commits.Stopped P = tt
-refused_cause (commits.Limit kind n) P = tt
-refused_cause commits.Memory P = tt
 
 -- a put, and a sync right after it
 pub stable_leads : (session : ℕ) (p : Place) (ops : List Op) (n : ℕ) (result : Result ℕ WriteFault) → IsStable n result
@@ -41,17 +33,4 @@ stable_leads session p ops n (Err writes.Memory) (inr is) = absurd cc
 
 pub stable_answers : (session : ℕ) (p : Place) (ops : List Op) (n : ℕ) (result : Result ℕ WriteFault) → IsStable n result → Puts session p ops (Ok n) → Writes session p ops true result
 stable_answers session p ops n result (inl is) puts = subst (Writes session p ops true) (sym is) puts
-stable_answers session p ops n result (inr is) puts = subst (Writes session p ops true) (sym is) (puts.0, refl, puts.1)
-
--- ---- the fault that a line tells
-
-is_write_limit : (session : ℕ) (p : Place) (ops : List Op) (kind : LimitKind) (n : ℕ) → PassesLimit session p ops kind n → IsWriteLimit kind n
-is_write_limit session p ops kind n (inl operations) = inl (operations.0, operations.1)
-is_write_limit session p ops kind n (inr tail) = inr (tail.0, tail.1)
-
-pub write_line_cause : (session : ℕ) (p : Place) (ops : List Op) (sync : Bool) (answer : Result ℕ WriteFault) (rose : Type 0) → Writes session p ops sync answer → OnUnsynced answer rose → LineCause rose (write_cause answer)
-write_line_cause session p ops sync (Ok n) rose answers cause = tt
-write_line_cause session p ops sync (Err (writes.Unsynced n)) rose answers cause = cause
-write_line_cause session p ops sync (Err writes.Stopped) rose answers cause = tt
-write_line_cause session p ops sync (Err (writes.Limit kind n)) rose answers cause = is_write_limit session p ops kind n answers.1
-write_line_cause session p ops sync (Err writes.Memory) rose answers cause = tt
+stable_answers session p ops n result (inr is) puts = subst (Writes session p ops true) (sym is) (puts.0, refl, puts.1, puts.2)

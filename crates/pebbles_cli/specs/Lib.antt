@@ -1,6 +1,7 @@
 pub mod Causes
 pub mod Gone
 pub mod Names
+pub mod Numbers
 pub mod Outside
 pub mod Read
 pub mod Returning

@@ -1,40 +1,57 @@
--- What devices and sinks tell at one time, and what a run makes of it.
+-- What devices and sinks tell at one time.
 use Rattle.std.specs.Prelude.{ℕ, Bool, List, Option}
-use Rattle.peb_base.specs.Batches.{Batches}
-use Rattle.script.specs.declared.cause.Cause.{Cause}
-use Rattle.disk_model.specs.Images.{Image}
 use Rattle.disk_model.specs.Directories.{Directories}
 use Rattle.disk_model.specs.SinkNames.{SinkNames}
+use Rattle.disk_model.specs.Told.{JournalTold, TablesTold}
 use Rattle.disk_model.specs.declared.devices.Devices as devices
+use Rattle.disk_model.specs.declared.journal.Journal as journal
 use Rattle.disk_model.specs.declared.sinks.Sinks as sinks
-use Rattle.pebbles_cli.specs.Names.{Uses}
-use Rattle.pebbles_cli.specs.Top.{Plays}
 
--- the files of the journal, what a crash may leave of them, which directory and sinks were used, the replies and the report
-pub record Outside : Type 1 where
-  pub seen : Image
-  pub may_leave : Image → Type 0
-  pub moment : ℕ
+-- What devices tell: whether their journals tell what files hold, the journal, the tables, which directory was used,
+-- and how often choosing one or handing out its journal has failed.
+pub record DevicesTold : Type 1 where
+  pub tells : Bool
+  pub journal : JournalTold
+  pub tables : TablesTold
   pub directories : Directories
+  pub faults : ℕ
+
+-- What sinks tell: for whom they were opened, how often that or the report has failed, the replies to client 1 and how
+-- often their sink has failed, and the report.
+pub record SinksTold : Type 0 where
   pub names : SinkNames
+  pub faults : ℕ
   pub replies : Option (List ℕ)
+  pub reply_faults : ℕ
   pub report : Option (List ℕ)
 
--- what these devices and sinks tell
-abbrev pub outside : {D J F P M K O : Type 0} → devices.Ghosts D J F P M → sinks.Ghosts K O → D → K → Outside
-outside d k devices sinks =
+-- all that a run may change
+pub record Outside : Type 1 where
+  pub devices : DevicesTold
+  pub sinks : SinksTold
+
+-- what these devices tell
+abbrev pub devices_told : {D J F P M : Type 0} → journal.Ghosts J → devices.Ghosts D J F P M → D → DevicesTold
+devices_told j d devices =
     record {
-      seen = d.seen devices;
-      may_leave = d.may_leave devices;
-      moment = d.moment devices;
+      tells = j.tells;
+      journal = d.journal_told devices;
+      tables = d.tables_told devices;
       directories = d.directories devices;
+      faults = d.faults devices;
+    }
+
+-- what these sinks tell
+abbrev pub sinks_told : {K O : Type 0} → sinks.Ghosts K O → K → SinksTold
+sinks_told k sinks =
+    record {
       names = k.names sinks;
+      faults = k.faults sinks;
       replies = k.took sinks 1;
+      reply_faults = k.client_faults sinks 1;
       report = k.reported sinks;
     }
 
--- a run of the script of these names leads from the old outside to the new one
-abbrev pub PlaysOn : List ℕ × List ℕ → Bool → Bool → Bool → Batches → Option (List ℕ) → Outside → Outside → Cause → Type 0
-PlaysOn names known tells honest base text old new cause =
-    Plays (Uses names.0 names.1 old.directories new.directories old.names new.names) known tells honest base old.seen old.moment text
-    old.replies new.replies old.report new.report new.may_leave cause
+-- what these devices and sinks tell
+abbrev pub outside : {D J F P M K O : Type 0} → journal.Ghosts J → devices.Ghosts D J F P M → sinks.Ghosts K O → D → K → Outside
+outside j d k devices sinks = record { devices = devices_told j d devices; sinks = sinks_told k sinks }

@@ -1,23 +1,88 @@
 -- What a run does.
-use Rattle.std.specs.Prelude.{◌≡◌, ◌≢◌, ◌⊎◌, ℕ, suc, ◌*◌, ◌^◌, ◌<◌, IsTrue, Bool, true, false, List, [], take, Option, Some, None, Result}
+use Rattle.std.specs.Prelude.{◌≡◌, ◌≢◌, ◌⊎◌, ℕ, suc, ◌*◌, ◌^◌, ◌<◌, ◌≤◌, IsTrue, Bool, true, false, List, [], take, Option, Some, None, Result}
+use Rattle.peb_base.specs.declared.profile.Profile.TheVariants.{Small}
 use Rattle.peb_base.specs.Batches.{Batches, last_number}
+use Rattle.peb_base.specs.Faults.{Rose}
 use Rattle.script.specs.declared.cause.Cause.{Cause}
 use Rattle.script.specs.declared.cause.Cause.TheVariants as causes
 use Rattle.script.specs.declared.command.Command.{Command}
 use Rattle.script.specs.Report.{report_text}
+use Rattle.disk_model.specs.Directories.{after_choice, after_opening}
 use Rattle.disk_model.specs.Images.{Image}
+use Rattle.disk_model.specs.SinkNames.{after_client, after_return}
+use Rattle.disk_model.specs.Told.{TablesStay}
 use Rattle.flsm_core.specs.declared.sync_fault.SyncFault.{SyncFault}
-use Rattle.flsm_core.specs.Place.{Place, all_of, opened, after_sync, Syncs}
+use Rattle.flsm_core.specs.Place.{Start, Place, all_of, opened, after_sync, Syncs}
 use Rattle.flsm_core.specs.Logs.{Held, HoldsLogs, Stands, greatest_session}
-use Rattle.flsm_core.specs.Standing.{Leaves}
-use Rattle.pebbles_cli.specs.Tells.{Tells, TellsOne, TookMore, sync_cause}
+use Rattle.flsm_core.specs.Opening.{OpensOn, HasWatched}
+use Rattle.flsm_core.specs.Standing.{IsLeftBy}
+use Rattle.pebbles_cli.specs.declared.served.Served.{Served}
+use Rattle.pebbles_cli.specs.Causes.{Says, RefusalCause, ReportCause, end_of}
+use Rattle.pebbles_cli.specs.Names.{OpensAtMost, replies_label, replies_name}
+use Rattle.pebbles_cli.specs.Numbers.{AreNumbered}
+use Rattle.pebbles_cli.specs.Outside.{DevicesTold, SinksTold, Outside}
+use Rattle.pebbles_cli.specs.Read.{IsWithin}
 use Rattle.pebbles_cli.specs.Shows.{ShowsAll}
-use Rattle.pebbles_cli.specs.Causes.{Says, end_of}
+use Rattle.pebbles_cli.specs.Tells.{Tells, TellsOne, TookMore, sync_cause}
+
+-- what the words of a run name, the directory and the script, and the script's text where it is told
+pub record Asked : Type 0 where
+  pub dir : List ℕ
+  pub file : List ℕ
+  pub text : Option (List ℕ)
+
+-- ---- the commands
+
+-- commands that are run from a place on in a session, and the name under which their replies go
+pub record Run : Type 0 where
+  pub session : ℕ
+  pub start : Place
+  pub name : List ℕ
+  pub commands : List Command
+
+-- how commands went: the lines of the replies, the first fault among these and whether the sink failed, and where the
+-- commands led
+pub record Went : Type 0 where
+  pub text : List ℕ
+  pub served : Served
+  pub place : Place
 
 -- a sink took this text in all, where it tells what it took
 abbrev pub IsTaken : Option (List ℕ) → List ℕ → Type 0
 IsTaken None text = Unit {0}
 IsTaken (Some taken) text = taken ≡ text
+
+-- the commands were run, up to the first one whose line the sink didn't take whole
+pub record IsAnswered (run : Run) (old new : SinksTold) (went : Went) : Type 0 where
+  pub told : Tells (TellsOne run.session) run.start run.commands went.text went.served.fault
+      went.served.sink_failed went.place
+  pub shown : ShowsAll went.place run.commands went.text went.served.sink_failed
+  pub numbered : AreNumbered (last_number (all_of run.start)) (all_of went.place) run.commands went.text
+      went.served.sink_failed
+  pub taken : IsTaken new.replies went.text
+  pub failed : IsTrue went.served.sink_failed → Rose 0 new.reply_faults
+  pub names : new.names ≡ after_return 1 (replies_label run.name) (after_client old.names)
+
+-- the sink of the replies couldn't be opened, and no command was run
+pub record IsUnheard (run : Run) (old new : SinksTold) (went : Went) : Type 0 where
+  pub cause : Rose old.faults new.faults
+  pub no_reply : new.replies ≡ old.replies
+  pub no_text : went.text ≡ []
+  pub served : went.served ≡ record { fault = None; sink_failed = true }
+  pub place : went.place ≡ run.start
+  pub names : new.names ≡ old.names
+
+-- the commands were run, or the sink of their replies couldn't be opened
+abbrev pub IsServed : Run → SinksTold → SinksTold → Went → Type 0
+IsServed run old new went = IsAnswered run old new went ⊎ IsUnheard run old new went
+
+-- ---- the closing
+
+-- how a store was closed: what the closing sync answered and where it led, and why the report isn't whole
+pub record Closed : Type 0 where
+  pub answer : Result ℕ SyncFault
+  pub place : Place
+  pub report : Option Cause
 
 -- the report of a run with this last number: the profile has levels 0 to 3
 unfoldable pub run_report : ℕ → List ℕ
@@ -28,38 +93,19 @@ abbrev pub Reports : ℕ → Option Cause → Option (List ℕ) → Option (List
 Reports last None old new = TookMore old (run_report last) new
 Reports last (Some cause) old new = (k : ℕ) × TookMore old (take k (run_report last)) new
 
--- at status 0 each command was answered without a fault, the report is whole, and no batch waits
-pub record IsDone (fault : Option Cause) (failed : Bool) (report : Option Cause) (last : Place) : Type 0 where
-  pub no_fault : fault ≡ None
-  pub all_taken : failed ≡ false
-  pub reported : report ≡ None
-  pub settled : last.waiting ≡ []
+-- a store that stood at this place was synced and handed back, and then the report was written
+pub record IsClosed (answered : Place) (old new : Outside) (closed : Closed) : Type 0 where
+  -- the closing sync
+  pub closes : Syncs answered closed.answer
+  pub leads : closed.place ≡ after_sync answered closed.answer
+  pub halted : closed.place.stopped ≡ true → Rose closed.place.start.faults new.devices.journal.faults
+  -- the report
+  pub reports : Reports (last_number (all_of closed.place)) closed.report old.sinks.report new.sinks.report
+  pub report_cause : ReportCause (Rose old.sinks.faults new.sinks.faults) closed.report
+  -- what a crash leaves
+  pub left : IsTrue new.devices.tells → IsLeftBy closed.place new.devices.journal
 
--- Commands were run from a place on, and then the closing sync: what the replies tell and show, and what a crash leaves.
-pub record Ran (tells : Bool) (session : ℕ) (start : Place) (commands : List Command) (took reported0 reported : Option (List ℕ)) (may_leave : Image → Type 0) (cause : Cause) : Type 0 where
-  -- the replies
-  pub text : List ℕ
-  -- the first fault that one tells
-  pub fault : Option Cause
-  -- the client's sink failed
-  pub failed : Bool
-  -- where the commands led
-  pub answered : Place
-  -- what the closing sync answered
-  pub closing : Result ℕ SyncFault
-  -- where that led
-  pub last : Place
-  -- why the report isn't whole
-  pub report : Option Cause
-  pub told : Tells (TellsOne session) start commands text fault failed answered
-  pub closes : Syncs answered closing
-  pub leads : last ≡ after_sync answered closing
-  pub taken : IsTaken took text
-  pub shown : ShowsAll last commands text failed
-  pub reports : Reports (last_number (all_of last)) report reported0 reported
-  pub ends : cause ≡ end_of fault failed (sync_cause closing) report
-  pub done : cause ≡ causes.Done → IsDone fault failed report last
-  pub left : IsTrue tells → IsTrue start.honest → (image : Image) → may_leave image → Leaves last.settled (all_of last) image
+-- ---- the whole
 
 -- the session after the greatest one of the image's logs, whose numbers are above those of the base
 pub record IsNext (base : Batches) (seen : Image) (session : ℕ) : Type 0 where
@@ -68,23 +114,50 @@ pub record IsNext (base : Batches) (seen : Image) (session : ℕ) : Type 0 where
   pub after : session ≡ suc (greatest_session logs)
   pub above : last_number base < session * 2 ^ 40
 
--- no command was run: nothing was replied or reported, and each image stands for the base as before; which names were used is told by `uses`
-pub record NotRun (uses : Bool → Type 0) (honest : Bool) (base : Batches) (took0 took reported0 reported : Option (List ℕ)) (may_leave : Image → Type 0) (cause : Cause) : Type 0 where
-  pub fault : cause ≢ causes.Done
-  pub no_reply : took ≡ took0
-  pub no_report : reported ≡ reported0
-  pub names : uses false
-  pub left : IsTrue honest → (image : Image) → may_leave image → Stands base image
+-- at status 0 each command was answered without a fault, the report is whole, and no batch waits
+pub record IsDone (went : Went) (closed : Closed) : Type 0 where
+  pub no_fault : went.served.fault ≡ None
+  pub all_taken : went.served.sink_failed ≡ false
+  pub reported : closed.report ≡ None
+  pub settled : closed.place.waiting ≡ []
 
--- these commands were run over a base, in a session that is the next one where the base is what the image stands for; which names were used is told by `uses`
-pub record RanOn (uses : Bool → Type 0) (known tells honest : Bool) (base : Batches) (seen : Image) (moment : ℕ) (commands : List Command) (took reported0 reported : Option (List ℕ)) (may_leave : Image → Type 0) (cause : Cause) : Type 0 where
+-- a store was opened so, the commands of the script were run, and the store was closed
+pub record Ran (start : Start) (asked : Asked) (old new : Outside) (cause : Cause) : Type 0 where
   pub session : ℕ
-  pub names : uses true
-  pub next : IsTrue known → IsNext base seen session
-  pub ran : Ran tells session (opened moment honest base) commands took reported0 reported may_leave cause
+  pub commands : List Command
+  pub went : Went
+  pub closed : Closed
+  -- what was opened
+  pub short : IsWithin asked.text 16777216
+  pub says : Says asked.text commands
+  pub next : IsTrue old.devices.tells → IsNext start.base old.devices.journal.seen session
+  pub directory : new.devices.directories ≡ after_opening (after_choice asked.dir old.devices.directories)
+  -- what was replied
+  pub served : IsServed
+      (record { session = session; start = opened start; name = replies_name asked.file; commands = commands })
+      old.sinks new.sinks went
+  -- how it ended
+  pub starts : closed.place.start ≡ start
+  pub closing : IsClosed went.place old new closed
+  pub ends : cause ≡ end_of went.served.fault went.served.sink_failed (sync_cause closed.answer) closed.report
+  pub done : cause ≡ causes.Done → IsDone went closed
+  -- what stays
+  pub tables : TablesStay old.devices.tables new.devices.tables
 
--- the script's commands were run over a base, or none
-abbrev pub Plays : (Bool → Type 0) → Bool → Bool → Bool → Batches → Image → ℕ → Option (List ℕ) → Option (List ℕ) → Option (List ℕ) → Option (List ℕ) → Option (List ℕ) → (Image → Type 0) → Cause → Type 0
-Plays uses known tells honest base seen moment text took0 took reported0 reported may_leave cause =
-    NotRun uses honest base took0 took reported0 reported may_leave cause
-    ⊎ ((commands : List Command) × Says text commands × RanOn uses known tells honest base seen moment commands took reported0 reported may_leave cause)
+-- no store was opened
+pub record NotOpened (asked : Asked) (old new : Outside) (cause : Cause) : Type 0 where
+  pub why : RefusalCause asked.text old.devices new.devices cause
+  pub directory : OpensAtMost asked.dir old.devices.directories new.devices.directories
+  -- nothing was replied or reported
+  pub sinks : new.sinks ≡ old.sinks
+  -- but for a fault of the journal, no file was changed
+  pub untouched : cause ≢ causes.Journal → HasWatched old.devices.journal new.devices.journal
+  -- and no crash since lost what was there
+  pub ever : IsTrue old.devices.tells → (base : Batches)
+      → OpensOn Small true base old.devices.journal.seen old.devices.journal.may_leave → (image : Image)
+      → new.devices.journal.left_since old.devices.journal.moment image → Stands Small base image
+  pub tables : TablesStay old.devices.tables new.devices.tables
+
+-- the script was run over a store that was opened so, or no store was opened
+abbrev pub Plays : Start → Asked → Outside → Outside → Cause → Type 0
+Plays start asked old new cause = NotOpened asked old new cause ⊎ Ran start asked old new cause

@@ -3,7 +3,7 @@ use Rattle.std.specs.Prelude.{◌≡◌, ◌⊎◌, ℕ, Bool, true, false, if�
 use Rattle.peb_base.specs.declared.op.Op.{Op}
 use Rattle.flsm_core.specs.declared.commit_fault.CommitFault.{CommitFault}
 use Rattle.flsm_core.specs.declared.commit_fault.CommitFault.TheVariants as commits
-use Rattle.flsm_core.specs.Place.{Place, all_of, next_number, with_batch, all_settled, halted, PassesLimit}
+use Rattle.flsm_core.specs.Place.{Place, all_of, next_number, with_batch, all_settled, halted, IsWithinLimits, PassesLimit}
 use Rattle.pebbles_cli.specs.declared.write_fault.WriteFault.{WriteFault}
 use Rattle.pebbles_cli.specs.declared.write_fault.WriteFault.TheVariants as writes
 
@@ -21,21 +21,16 @@ after_write session p ops sync (Err writes.Stopped) = p
 after_write session p ops sync (Err (writes.Limit kind n)) = p
 after_write session p ops sync (Err writes.Memory) = p
 
--- a write may answer so: its number is the next one; it is refused exactly where the journal has failed before, or where a limit is passed
+-- a write may answer so: its number is the next one; it is refused exactly where the journal has failed before, or
+-- where a limit is passed
 abbrev pub Writes : ℕ → Place → List Op → Bool → Result ℕ WriteFault → Type 0
-Writes session p ops sync (Ok n) = (p.stopped ≡ false) × (n ≡ next_number session (all_of p))
-Writes session p ops sync (Err (writes.Unsynced n)) = (p.stopped ≡ false) × (sync ≡ true) × (n ≡ next_number session (all_of p))
+Writes session p ops sync (Ok n) =
+    (p.stopped ≡ false) × IsWithinLimits session p ops × (n ≡ next_number session (all_of p))
+Writes session p ops sync (Err (writes.Unsynced n)) =
+    (p.stopped ≡ false) × (sync ≡ true) × IsWithinLimits session p ops × (n ≡ next_number session (all_of p))
 Writes session p ops sync (Err writes.Stopped) = p.stopped ≡ true
 Writes session p ops sync (Err (writes.Limit kind n)) = (p.stopped ≡ false) × PassesLimit session p ops kind n
 Writes session p ops sync (Err writes.Memory) = p.stopped ≡ false
-
--- P, where the batch was committed and the sync failed
-abbrev pub OnUnsynced : Result ℕ WriteFault → Type 0 → Type 0
-OnUnsynced (Ok n) P = Unit {0}
-OnUnsynced (Err (writes.Unsynced n)) P = P
-OnUnsynced (Err writes.Stopped) P = Unit {0}
-OnUnsynced (Err (writes.Limit kind n)) P = Unit {0}
-OnUnsynced (Err writes.Memory) P = Unit {0}
 
 -- where a sync leads that comes right after a write
 abbrev pub after_stable : Place → Result ℕ WriteFault → Place

@@ -1,9 +1,10 @@
 ghost use Rattle.std.specs.Prelude.{◌≡◌, ◌≤◌, ℕ, Result};
-ghost use Rattle.disk_model.specs.Images.{Rose};
+ghost use Rattle.peb_base.specs.Faults.{Rose};
+ghost use Rattle.disk_model.specs.Replies.{ClientsStay};
 ghost use Rattle.flsm_core.specs.declared.sync_fault.SyncFault.{SyncFault};
 ghost use Rattle.flsm_core.specs.Place.{Place, Syncs, after_sync};
 ghost use Rattle.pebbles_cli.specs.Tells.{sync_cause};
-ghost use Rattle.pebbles_cli.specs.Causes.{LineCause, ReportCause};
+ghost use Rattle.pebbles_cli.specs.Causes.{ReportCause};
 ghost use Rattle.pebbles_cli.specs.Top.{Reports};
 
 use disk_model::Sinks;
@@ -28,9 +29,8 @@ fn sync_cause(answer: Result<Number, SyncFault>) -> Option<Cause>
 /// Makes all batches stable, and gives the journal's fault, if there is one.
 pub fn settle<S: Store>(store: &mut S) -> Option<Cause>
     requires { (p : Place) × S.stands store.old p }
-    ensures stands { (p : Place) → S.stands store.old p → (closing : Result ℕ SyncFault) × Syncs p closing × (result ≡ sync_cause closing) × S.stands store.new (after_sync p closing) }
-    ensures later { S.faults store.old ≤ S.faults store.new }
-    ensures cause { LineCause (Rose (S.faults store.old) (S.faults store.new)) result }
+    ensures stands { (p : Place) → S.stands store.old p → (closing : Result ℕ SyncFault)
+        × Syncs p closing × (result ≡ sync_cause closing) × S.stands store.new (after_sync p closing) }
 {
     let answer = store.sync();
     sync_cause(answer)
@@ -40,10 +40,8 @@ pub fn settle<S: Store>(store: &mut S) -> Option<Cause>
 pub fn write_report<K: Sinks>(alloc: Global, sinks: &mut K, last: Number) -> Option<Cause>
     ensures reports { Reports last result (K.reported sinks.old) (K.reported sinks.new) }
     ensures cause { ReportCause (Rose (K.faults sinks.old) (K.faults sinks.new)) result }
-    ensures names { K.names sinks.new ≡ K.names sinks.old }
-    ensures later { K.faults sinks.old ≤ K.faults sinks.new }
-    ensures others { (i : ℕ) → K.took sinks.new i ≡ K.took sinks.old i }
-    ensures counts { (i : ℕ) → K.client_faults sinks.new i ≡ K.client_faults sinks.old i }
+    ensures never_falls { K.faults sinks.old ≤ K.faults sinks.new }
+    ensures clients { ClientsStay K.Sinks sinks.old sinks.new }
 {
     let report = Report {
         last,

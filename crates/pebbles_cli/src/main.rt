@@ -27,6 +27,7 @@ mod real_tables_tests;
 mod returned;
 mod run;
 mod serve;
+mod serve_client;
 mod served;
 mod taken_away;
 #[cfg(test)]

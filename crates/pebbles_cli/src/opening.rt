@@ -1,15 +1,18 @@
-ghost use Rattle.std.specs.Prelude.{◌≡◌, ◌≢◌, ◌⊎◌, ◌≤◌, ℕ, suc, ◌*◌, ◌^◌, ◌<◌, Bool, true, false, IsTrue, IfOk, IfErr, OnOk, OnErr};
-ghost use Rattle.disk_model.specs.Images.{Image, Rose};
-ghost use Rattle.disk_model.specs.Directories.{after_choice, after_opening};
+ghost use Rattle.std.specs.Prelude.{◌≡◌, ◌≢◌, ◌⊎◌, ◌≤◌, ℕ, Bool, true, false, IsTrue, IfOk, IfErr, OnOk, OnErr};
+ghost use Rattle.peb_base.specs.declared.profile.Profile.TheVariants.{Small};
 ghost use Rattle.peb_base.specs.Batches.{Batches, last_number};
-ghost use Rattle.flsm_core.specs.Place.{Place, opened, all_of};
-ghost use Rattle.flsm_core.specs.Logs.{Stands};
-ghost use Rattle.flsm_core.specs.Opening.{OpensOn};
-ghost use Rattle.flsm_core.specs.Standing.{IsAt, Leaves};
+ghost use Rattle.disk_model.specs.Directories.{after_choice, after_opening};
+ghost use Rattle.disk_model.specs.Told.{TellsTheSame, TablesStay, told_by};
+ghost use Rattle.disk_model.specs.Images.{Image};
+ghost use Rattle.flsm_core.specs.Place.{Place, opened, start_at};
+ghost use Rattle.flsm_core.specs.Logs.{ReadsAs, Stands};
+ghost use Rattle.flsm_core.specs.Opening.{OpensOn, HasWatched};
+ghost use Rattle.flsm_core.specs.Standing.{IsAt, IsLeftBy};
 ghost use Rattle.flsm_core.specs.State.{state_session, state_journal};
 ghost use Rattle.script.specs.declared.cause.Cause.TheVariants as causes;
-ghost use Rattle.pebbles_cli.specs.Causes.{RunCause, opening_cause};
+ghost use Rattle.pebbles_cli.specs.Causes.{IsOpeningCause, opening_cause};
 ghost use Rattle.pebbles_cli.specs.Names.{OpensAtMost};
+ghost use Rattle.pebbles_cli.specs.Outside.{devices_told};
 ghost use Rattle.pebbles_cli.specs.Top.{IsNext};
 
 use disk_model::Devices;
@@ -30,26 +33,35 @@ fn opening_cause(fault: OpenFault) -> Cause
     }
 }
 
-/// Opens the store of a directory in the profile `small`. Where that fails the devices have their journal back, and each image stands as before.
+/// Opens the store of a directory in the profile `small`. Where that fails the devices have their journal back, and each
+/// crash since leaves what was there; but for a fault of the journal no file was changed.
 pub fn open_store<D: Devices>(
     alloc: Global,
     dir: &str,
     devices: &mut D,
 ) -> Result<State<D::J>, Cause>
+    // what it gives
+    ensures stands { IfOk result (λ state. IsTrue D.J.tells → (honest : Bool) (base : Batches)
+        → OpensOn Small honest base (D.journal_told devices.old).seen (D.journal_told devices.old).may_leave
+        → IsAt D.J.Journal state (opened (start_at (D.journal_told devices.old) Small honest base))
+        × IsNext base (D.journal_told devices.old).seen (state_session state)) }
+    ensures somewhere { IfOk result (λ state. (base : Batches)
+        × ((IsTrue D.J.tells → ReadsAs Small base (D.journal_told devices.old).seen)
+        × IsAt D.J.Journal state (opened (start_at (D.journal_told devices.old) Small false base))
+        × (IsTrue D.J.tells → IsNext base (D.journal_told devices.old).seen (state_session state)))) }
     ensures opened { OnOk result (D.directories devices.new ≡ after_opening (after_choice dir.now (D.directories devices.old))) }
+    // when it fails
+    ensures cause { IfErr result (λ cause. IsOpeningCause (devices_told D.J.Journal D.Devices devices.old)
+        (devices_told D.J.Journal D.Devices devices.new) cause) }
+    // what it leaves
     ensures refused { OnErr result (OpensAtMost dir.now (D.directories devices.old) (D.directories devices.new)) }
-    ensures stands { IfOk result (λ state. IsTrue D.J.tells → (honest : Bool) (base : Batches) → OpensOn honest base (D.seen devices.old) (D.may_leave devices.old)
-        → IsAt D.J.Journal state (opened (D.moment devices.old) honest base)) }
-    ensures some { IfOk result (λ state. (base : Batches) × IsAt D.J.Journal state (opened (D.moment devices.old) false base)) }
-    ensures next { IfOk result (λ state. IsTrue D.J.tells → (base : Batches) → Stands base (D.seen devices.old) → IsNext base (D.seen devices.old) (state_session state)) }
-    ensures count { IfOk result (λ state. D.journal_faults devices.old ≤ D.J.faults (state_journal state)) }
-    ensures left { IfErr result (λ _. IsTrue D.J.tells → (base : Batches) → OpensOn true base (D.seen devices.old) (D.may_leave devices.old)
-        → (image : Image) → D.may_leave devices.new image → Stands base image) }
-    ensures count_err { IfErr result (λ _. D.journal_faults devices.old ≤ D.journal_faults devices.new) }
-    ensures later { D.faults devices.old ≤ D.faults devices.new }
-    ensures fault { IfErr result (λ cause. cause ≢ causes.Done) }
-    ensures cause { IfErr result (λ cause. RunCause (Rose (D.faults devices.old) (D.faults devices.new) ⊎ Rose (D.journal_faults devices.old) (D.journal_faults devices.new))
-        ⊥ ⊥ D.J.tells (D.seen devices.old) cause) }
+    ensures untouched { IfErr result (λ cause. cause ≢ causes.Journal
+        → HasWatched (D.journal_told devices.old) (D.journal_told devices.new)) }
+    ensures ever { IfErr result (λ cause. IsTrue D.J.tells → (base : Batches)
+        → OpensOn Small true base (D.journal_told devices.old).seen (D.journal_told devices.old).may_leave
+        → (image : Image) → (D.journal_told devices.new).left_since (D.journal_told devices.old).moment image
+        → Stands Small base image) }
+    ensures tables { TablesStay (D.tables_told devices.old) (D.tables_told devices.new) }
 {
     let Ok(()) = devices.set(dir) else {
         return Err(Cause::Journal);
@@ -69,11 +81,11 @@ pub fn open_store<D: Devices>(
 
 /// Hands the journal of a store back to the devices.
 pub fn close_store<D: Devices>(devices: &mut D, state: State<D::J>)
-    ensures left { IsTrue D.J.tells → (p : Place) → IsAt D.J.Journal state p → IsTrue p.honest
-        → (image : Image) → D.may_leave devices.new image → Leaves p.settled (all_of p) image }
+    ensures told { TellsTheSame (told_by D.J.Journal (state_journal state)) (D.journal_told devices.new) }
+    ensures left { IsTrue D.J.tells → (p : Place) → IsAt D.J.Journal state p → IsLeftBy p (D.journal_told devices.new) }
     ensures directories { D.directories devices.new ≡ D.directories devices.old }
-    ensures count { D.journal_faults devices.new ≡ D.J.faults (state_journal state) }
     ensures faults { D.faults devices.new ≡ D.faults devices.old }
+    ensures tables { TablesStay (D.tables_told devices.old) (D.tables_told devices.new) }
 {
     devices.back(state.close());
 }

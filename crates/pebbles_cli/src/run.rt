@@ -1,19 +1,22 @@
-ghost use Rattle.std.specs.Prelude.{◌≡◌, ◌⊎◌, ◌≤◌, ◌++◌, ℕ, Bool, true, false, IsTrue, IfOk, Option, codes, string_bytes};
-ghost use Rattle.disk_model.specs.Images.{Image, Rose};
-ghost use Rattle.disk_model.specs.Bytes.{IsFresh};
-ghost use Rattle.disk_model.specs.SinkNames.{after_return};
+ghost use Rattle.std.specs.Prelude.{◌≡◌, ◌⊎◌, ◌≤◌, ℕ, List, Bool, true, false, IsTrue, IfOk, Option, string_bytes};
+ghost use Rattle.peb_base.specs.declared.profile.Profile.TheVariants.{Small};
 ghost use Rattle.peb_base.specs.Batches.{Batches};
-ghost use Rattle.flsm_core.specs.Place.{Place};
+ghost use Rattle.disk_model.specs.Replies.{ClientsStay};
+ghost use Rattle.disk_model.specs.Told.{TablesStay};
+ghost use Rattle.flsm_core.specs.Logs.{ReadsAs};
 ghost use Rattle.flsm_core.specs.Opening.{OpensOn};
+ghost use Rattle.flsm_core.specs.Place.{Place, start_at};
 ghost use Rattle.flsm_core.specs.Standing.{IsAt};
-ghost use Rattle.flsm_core.specs.State.{state_session, state_journal};
-ghost use Rattle.pebbles_cli.specs.Causes.{RunCause, end_of};
-ghost use Rattle.pebbles_cli.specs.Names.{Uses};
-ghost use Rattle.pebbles_cli.specs.Top.{Ran, RanOn, NotRun};
+ghost use Rattle.pebbles_cli.specs.Causes.{IsScript, Says, end_of};
+ghost use Rattle.pebbles_cli.specs.Names.{replies_name};
+ghost use Rattle.pebbles_cli.specs.Outside.{outside};
+ghost use Rattle.pebbles_cli.specs.Read.{IsWithin};
+ghost use Rattle.pebbles_cli.specs.Tells.{sync_cause};
+ghost use Rattle.pebbles_cli.specs.Top.{Asked, Closed, IsClosed, Plays};
 
 use crate::closing::{settle, write_report};
 use crate::opening::{close_store, open_store};
-use crate::serve::serve;
+use crate::serve_client::serve_client;
 use crate::served::Served;
 use disk_model::{Devices, Sinks};
 use flsm_core::{State, Store};
@@ -22,7 +25,7 @@ use std::alloc::{AllocError, Global};
 
 /// The name of the file of a client's replies.
 fn reply_name(alloc: Global, file: &str) -> Result<String, AllocError>
-    ensures { IfOk result (λ name. string_bytes name ≡ file.now ++ codes ".out") }
+    ensures { IfOk result (λ name. string_bytes name ≡ replies_name file.now) }
 {
     format!(in alloc; "{file}.out")
 }
@@ -42,41 +45,38 @@ fn end_of(served: Served, closing: Option<Cause>, report: Option<Cause>) -> Caus
         .unwrap_or(Cause::Done)
 }
 
-/// Runs commands on an open store, settles it, hands back what it was given, and writes the report.
-fn run_opened<D: Devices, K: Sinks>(
+/// Settles a store, hands its journal back, writes the report, and gives the cause that the run ends with.
+fn close_run<D: Devices, K: Sinks>(
     alloc: Global,
     devices: &mut D,
     sinks: &mut K,
     opened: State<D::J>,
-    replies: K::One,
-    commands: Vec<Command>,
-    line: &mut ReplyBuf,
+    served: Served,
 ) -> Cause
-    requires stands { (p : Place) × IsAt D.J.Journal opened p }
-    requires fresh { IsFresh (K.One.taken replies) }
-    requires unused { K.One.faults replies ≡ 0 }
-    ensures ran { (p : Place) → IsAt D.J.Journal opened p → p.stopped ≡ false
-        → Ran D.J.tells (state_session opened) p commands.items (K.took sinks.new 1) (K.reported sinks.old) (K.reported sinks.new) (D.may_leave devices.new) result }
+    requires { (p : Place) × IsAt D.J.Journal opened p }
+    // what it leaves
+    ensures closed { (p : Place) → IsAt D.J.Journal opened p → (closed : Closed) × (IsClosed p
+        (outside D.J.Journal D.Devices K.Sinks devices.old sinks.old)
+        (outside D.J.Journal D.Devices K.Sinks devices.new sinks.new) closed
+        × (result ≡ end_of served.fault served.sink_failed (sync_cause closed.answer) closed.report)) }
+    // what stays
+    ensures clients { ClientsStay K.Sinks sinks.old sinks.new }
+    ensures never_falls { K.faults sinks.old ≤ K.faults sinks.new }
     ensures directories { D.directories devices.new ≡ D.directories devices.old }
-    ensures names { K.names sinks.new ≡ after_return 1 (K.One.label replies) (K.names sinks.old) }
-    ensures count { D.J.faults (state_journal opened) ≤ D.journal_faults devices.new }
     ensures faults { D.faults devices.new ≡ D.faults devices.old }
-    ensures sinks_later { K.faults sinks.old ≤ K.faults sinks.new }
-    ensures cause { (seen : Image) → RunCause (Rose (D.J.faults (state_journal opened)) (D.journal_faults devices.new)) (Rose (K.faults sinks.old) (K.faults sinks.new))
-        (Rose 0 (K.client_faults sinks.new 1)) D.J.tells seen result }
+    ensures tables { TablesStay (D.tables_told devices.old) (D.tables_told devices.new) }
 {
     let mut state = opened;
-    let mut sink = replies;
-    let served = serve(&mut state, &mut sink, commands, line);
     let closing = settle(&mut state);
     let last = state.last();
     close_store(devices, state);
-    sinks.back(1, sink);
     let report = write_report(alloc, sinks, last);
     end_of(served, closing, report)
 }
 
-/// Opens the store of a directory, opens the sink of the replies, and runs commands.
+/// Opens the store of a directory, runs the commands of a script, and closes the store.
+///
+/// Once the store was opened, it is settled and the report is written, whatever happens.
 pub fn run_commands<D: Devices, K: Sinks>(
     alloc: Global,
     dir: &str,
@@ -85,13 +85,21 @@ pub fn run_commands<D: Devices, K: Sinks>(
     sinks: &mut K,
     commands: Vec<Command>,
 ) -> Cause
-    ensures ran { IsTrue D.J.tells → (honest : Bool) (base : Batches) → OpensOn honest base (D.seen devices.old) (D.may_leave devices.old)
-        → NotRun (Uses dir.now file.now (D.directories devices.old) (D.directories devices.new) (K.names sinks.old) (K.names sinks.new)) honest base (K.took sinks.old 1) (K.took sinks.new 1) (K.reported sinks.old) (K.reported sinks.new) (D.may_leave devices.new) result
-        ⊎ RanOn (Uses dir.now file.now (D.directories devices.old) (D.directories devices.new) (K.names sinks.old) (K.names sinks.new)) true D.J.tells honest base (D.seen devices.old) (D.moment devices.old) commands.items (K.took sinks.new 1) (K.reported sinks.old) (K.reported sinks.new) (D.may_leave devices.new) result }
-    ensures somehow { (base : Batches) × (NotRun (Uses dir.now file.now (D.directories devices.old) (D.directories devices.new) (K.names sinks.old) (K.names sinks.new)) false base (K.took sinks.old 1) (K.took sinks.new 1) (K.reported sinks.old) (K.reported sinks.new) (D.may_leave devices.new) result
-        ⊎ RanOn (Uses dir.now file.now (D.directories devices.old) (D.directories devices.new) (K.names sinks.old) (K.names sinks.new)) false D.J.tells false base (D.seen devices.old) (D.moment devices.old) commands.items (K.took sinks.new 1) (K.reported sinks.old) (K.reported sinks.new) (D.may_leave devices.new) result) }
-    ensures cause { RunCause (Rose (D.faults devices.old) (D.faults devices.new) ⊎ Rose (D.journal_faults devices.old) (D.journal_faults devices.new))
-        (Rose (K.faults sinks.old) (K.faults sinks.new)) (Rose 0 (K.client_faults sinks.new 1)) D.J.tells (D.seen devices.old) result }
+    ensures ran { IsTrue D.J.tells → (text : Option (List ℕ)) → IsWithin text 16777216 → Says text commands.items
+        → (honest : Bool) (base : Batches)
+        → OpensOn Small honest base (D.journal_told devices.old).seen (D.journal_told devices.old).may_leave
+        → Plays (start_at (D.journal_told devices.old) Small honest base)
+            (record { dir = dir.now; file = file.now; text = text })
+            (outside D.J.Journal D.Devices K.Sinks devices.old sinks.old)
+            (outside D.J.Journal D.Devices K.Sinks devices.new sinks.new)
+            result }
+    ensures somehow { (text : Option (List ℕ)) → IsWithin text 16777216 → Says text commands.items → (base : Batches)
+        × ((IsTrue D.J.tells → ReadsAs Small base (D.journal_told devices.old).seen)
+        × Plays (start_at (D.journal_told devices.old) Small false base)
+            (record { dir = dir.now; file = file.now; text = text })
+            (outside D.J.Journal D.Devices K.Sinks devices.old sinks.old)
+            (outside D.J.Journal D.Devices K.Sinks devices.new sinks.new)
+            result) }
 {
     let Ok(name) = reply_name(alloc, file) else {
         return Cause::Memory;
@@ -99,13 +107,10 @@ pub fn run_commands<D: Devices, K: Sinks>(
     let Ok(mut line) = ReplyBuf::new(alloc) else {
         return Cause::Memory;
     };
-    let state = match open_store(alloc, dir, devices) {
+    let mut state = match open_store(alloc, dir, devices) {
         Ok(state) => state,
         Err(cause) => return cause,
     };
-    let Ok(replies) = sinks.client(1, name.as_str()) else {
-        close_store(devices, state);
-        return Cause::Sink(1);
-    };
-    run_opened(alloc, devices, sinks, state, replies, commands, &mut line)
+    let served = serve_client(&mut state, sinks, name.as_str(), commands, &mut line);
+    close_run(alloc, devices, sinks, state, served)
 }

@@ -1,10 +1,9 @@
-ghost use Rattle.std.specs.Prelude.{◌≡◌, ◌≤◌, ℕ, List, IsTrue, Err, Ok, false};
+ghost use Rattle.std.specs.Prelude.{◌≡◌, ℕ, List, IsTrue, Err, Ok, false};
 ghost use Rattle.std.specs.Option.{option_or};
-ghost use Rattle.disk_model.specs.Images.{Rose};
+ghost use Rattle.peb_base.specs.Faults.{Rose};
 ghost use Rattle.peb_base.specs.Batches.{last_number};
 ghost use Rattle.flsm_core.specs.Place.{Place, all_of};
 ghost use Rattle.pebbles_cli.specs.Tells.{Tells, TellsOne, TookMore, write_line, write_cause, get_line};
-ghost use Rattle.pebbles_cli.specs.Causes.{LineCause};
 
 use crate::served::Served;
 use crate::write::write;
@@ -75,10 +74,9 @@ fn get<S: Store>(store: &S, key: &Key, out: &mut ReplyBuf)
 /// Runs a command, leaves its line, and gives the fault that the line tells.
 fn answer<S: Store>(store: &mut S, command: Command, out: &mut ReplyBuf) -> Option<Cause>
     requires { (p : Place) × S.stands store.old p }
-    ensures told { (old : Place) → S.stands store.old old → (new : Place) × (S.stands store.new new × TellsOne (S.session store.old) old command out.new result new) }
+    ensures told { (old : Place) → S.stands store.old old → (new : Place)
+        × (S.stands store.new new × TellsOne (S.session store.old) old command out.new result new) }
     ensures session { S.session store.new ≡ S.session store.old }
-    ensures later { S.faults store.old ≤ S.faults store.new }
-    ensures cause { LineCause (Rose (S.faults store.old) (S.faults store.new)) result }
 {
     match command {
         Command::Put { key, value, sync } => {
@@ -101,12 +99,10 @@ pub fn serve<S: Store, K: Sink>(
 ) -> Served
     requires { (p : Place) × S.stands store.old p }
     ensures told { (old : Place) → S.stands store.old old → (text : List ℕ) × (new : Place) × (S.stands store.new new
-        × ((TookMore (K.taken sink.old) text (K.taken sink.new)) × Tells (TellsOne (S.session store.old)) old commands.items text result.fault result.sink_failed new)) }
+        × ((TookMore (K.taken sink.old) text (K.taken sink.new))
+        × Tells (TellsOne (S.session store.old)) old commands.items text result.fault result.sink_failed new)) }
     ensures session { S.session store.new ≡ S.session store.old }
-    ensures store_later { S.faults store.old ≤ S.faults store.new }
     ensures label { K.label sink.new ≡ K.label sink.old }
-    ensures sink_later { K.faults sink.old ≤ K.faults sink.new }
-    ensures journal { LineCause (Rose (S.faults store.old) (S.faults store.new)) result.fault }
     ensures sink { IsTrue result.sink_failed → Rose (K.faults sink.old) (K.faults sink.new) }
 {
     let mut fault = None;

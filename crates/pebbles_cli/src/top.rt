@@ -1,12 +1,16 @@
 ghost use Rattle.std.specs.Prelude.{◌≡◌, ◌⊎◌, ◌↔◌, ℕ, Bool, true, false, IsTrue, List, map, None, IfSome, string_bytes};
+ghost use Rattle.peb_base.specs.declared.profile.Profile.TheVariants.{Small};
 ghost use Rattle.peb_base.specs.Batches.{Batches};
-ghost use Rattle.disk_model.specs.Images.{Rose};
+ghost use Rattle.peb_base.specs.Faults.{Rose};
+ghost use Rattle.flsm_core.specs.Logs.{ReadsAs};
 ghost use Rattle.flsm_core.specs.Opening.{OpensOn};
+ghost use Rattle.flsm_core.specs.Place.{start_at};
 ghost use Rattle.script.specs.Cause.{status_of};
 ghost use Rattle.script.specs.declared.cause.Cause.TheVariants as causes;
 ghost use Rattle.pebbles_cli.specs.Words.{run_words};
 ghost use Rattle.pebbles_cli.specs.Causes.{PlayCause, IsBeforeOpening};
-ghost use Rattle.pebbles_cli.specs.Outside.{PlaysOn, outside};
+ghost use Rattle.pebbles_cli.specs.Outside.{outside};
+ghost use Rattle.pebbles_cli.specs.Top.{Asked, Plays};
 
 use crate::ended::Ended;
 use crate::read_fault::ReadFault;
@@ -27,16 +31,23 @@ fn play<D: Devices, S: Scripts, K: Sinks>(
     scripts: &mut S,
     sinks: &mut K,
 ) -> Cause
+    // what it does
+    ensures ran { IsTrue D.J.tells → (honest : Bool) (base : Batches)
+        → OpensOn Small honest base (D.journal_told devices.old).seen (D.journal_told devices.old).may_leave
+        → Plays (start_at (D.journal_told devices.old) Small honest base)
+            (record { dir = dir.now; file = file.now; text = S.text scripts.old file.now })
+            (outside D.J.Journal D.Devices K.Sinks devices.old sinks.old)
+            (outside D.J.Journal D.Devices K.Sinks devices.new sinks.new) result }
+    ensures somehow { (base : Batches) × ((IsTrue D.J.tells → ReadsAs Small base (D.journal_told devices.old).seen)
+        × Plays (start_at (D.journal_told devices.old) Small false base)
+            (record { dir = dir.now; file = file.now; text = S.text scripts.old file.now })
+            (outside D.J.Journal D.Devices K.Sinks devices.old sinks.old)
+            (outside D.J.Journal D.Devices K.Sinks devices.new sinks.new) result) }
+    // when it fails
+    ensures source { (i : ℕ) → result ≡ causes.Source i → Rose (S.faults scripts.old) (S.faults scripts.new) }
+    // what stays
     ensures untouched { IsBeforeOpening result → devices.new ≡ devices.old }
     ensures silent { IsBeforeOpening result → sinks.new ≡ sinks.old }
-    ensures ran { IsTrue D.J.tells → (honest : Bool) (base : Batches) → OpensOn honest base (D.seen devices.old) (D.may_leave devices.old)
-        → PlaysOn (dir.now, file.now) true D.J.tells honest base (S.text scripts.old file.now)
-            (outside D.Devices K.Sinks devices.old sinks.old) (outside D.Devices K.Sinks devices.new sinks.new) result }
-    ensures somehow { (base : Batches) × PlaysOn (dir.now, file.now) false D.J.tells false base (S.text scripts.old file.now)
-        (outside D.Devices K.Sinks devices.old sinks.old) (outside D.Devices K.Sinks devices.new sinks.new) result }
-    ensures cause { PlayCause (Rose (S.faults scripts.old) (S.faults scripts.new))
-        (Rose (D.faults devices.old) (D.faults devices.new) ⊎ Rose (D.journal_faults devices.old) (D.journal_faults devices.new))
-        (Rose (K.faults sinks.old) (K.faults sinks.new)) (Rose 0 (K.client_faults sinks.new 1)) D.J.tells (D.seen devices.old) (S.text scripts.old file.now) result }
 {
     let text = match read_script(alloc, scripts, file) {
         Ok(text) => text,
@@ -54,10 +65,15 @@ fn play<D: Devices, S: Scripts, K: Sinks>(
 
 /// Does all that the program does, on words that need no thread.
 ///
-/// The words are `run --profile small --workers 0 DIR FILE`; all others are `Usage`. The script FILE is read and parsed, the store of the directory DIR
-/// is opened on the devices, the commands run one after another, each reply is handed to the sink that is opened for client 1 under the name FILE.out before the next
-/// command runs, and the report goes to the report's sink. No other directory is chosen, and no other sink is opened. The cause is the first fault: of the words, the script, the opening, a reply, the client's sink, the last sync, the report.
-/// The devices come back with all that was made of them: where no command ran they stand for what they stood for, and else for what was settled and some of what was not.
+/// The words are `run --profile small --workers 0 DIR FILE`; all others are `Usage`. The script FILE is read and parsed, the
+/// store of the directory DIR is opened on the devices, the commands run one after another, each reply is handed to the
+/// sink that is opened for client 1 under the name FILE.out before the next command runs, the store is synced and closed,
+/// and the report goes to the report's sink. Once the store was opened, it is closed and the report is written whatever
+/// happened. No other directory is chosen, no other sink is opened, and no table is touched. The cause is the first fault:
+/// of the words, the script, the opening, a reply, the client's sink, the last sync, the report.
+///
+/// The devices come back with all that was made of them. A crash at any moment of the call, and after it, leaves the batches
+/// that were opened and first ones of the run, after it at least the settled ones.
 pub fn top_plain<D: Devices, S: Scripts, K: Sinks>(
     alloc: Global,
     words: &[String],
@@ -65,19 +81,31 @@ pub fn top_plain<D: Devices, S: Scripts, K: Sinks>(
     scripts: &mut S,
     sinks: &mut K,
 ) -> Ended<D>
+    // what it does: over a base that each image stood for, or that is read; and over some base in any case
+    ensures ran { IfSome (run_words (map string_bytes words.now)) (λ names. IsTrue D.J.tells
+        → (honest : Bool) (base : Batches)
+        → OpensOn Small honest base (D.journal_told devices).seen (D.journal_told devices).may_leave
+        → Plays (start_at (D.journal_told devices) Small honest base)
+            (record { dir = names.0; file = names.1; text = S.text scripts.old names.1 })
+            (outside D.J.Journal D.Devices K.Sinks devices sinks.old)
+            (outside D.J.Journal D.Devices K.Sinks result.devices sinks.new) result.cause) }
+    ensures somehow { IfSome (run_words (map string_bytes words.now)) (λ names. (base : Batches)
+        × ((IsTrue D.J.tells → ReadsAs Small base (D.journal_told devices).seen)
+        × Plays (start_at (D.journal_told devices) Small false base)
+            (record { dir = names.0; file = names.1; text = S.text scripts.old names.1 })
+            (outside D.J.Journal D.Devices K.Sinks devices sinks.old)
+            (outside D.J.Journal D.Devices K.Sinks result.devices sinks.new) result.cause)) }
+    // how it ends
     ensures status { result.status ≡ status_of result.cause }
     ensures usage { (result.cause ≡ causes.Usage) ↔ (run_words (map string_bytes words.now) ≡ None) }
+    ensures cause { IfSome (run_words (map string_bytes words.now)) (λ names. PlayCause (S.text scripts.old names.1)
+        (outside D.J.Journal D.Devices K.Sinks devices sinks.old)
+        (outside D.J.Journal D.Devices K.Sinks result.devices sinks.new) result.cause) }
+    ensures source { (i : ℕ) → result.cause ≡ causes.Source i → Rose (S.faults scripts.old) (S.faults scripts.new) }
+    // what stays
     ensures untouched { IsBeforeOpening result.cause → result.devices ≡ devices }
     ensures silent { IsBeforeOpening result.cause → sinks.new ≡ sinks.old }
     ensures unread { (result.cause ≡ causes.Usage) → scripts.new ≡ scripts.old }
-    ensures ran { IfSome (run_words (map string_bytes words.now)) (λ names. IsTrue D.J.tells → (honest : Bool) (base : Batches) → OpensOn honest base (D.seen devices) (D.may_leave devices)
-        → PlaysOn names true D.J.tells honest base (S.text scripts.old names.1)
-            (outside D.Devices K.Sinks devices sinks.old) (outside D.Devices K.Sinks result.devices sinks.new) result.cause) }
-    ensures somehow { IfSome (run_words (map string_bytes words.now)) (λ names. (base : Batches) × PlaysOn names false D.J.tells false base (S.text scripts.old names.1)
-        (outside D.Devices K.Sinks devices sinks.old) (outside D.Devices K.Sinks result.devices sinks.new) result.cause) }
-    ensures cause { IfSome (run_words (map string_bytes words.now)) (λ names. PlayCause (Rose (S.faults scripts.old) (S.faults scripts.new))
-        (Rose (D.faults devices) (D.faults result.devices) ⊎ Rose (D.journal_faults devices) (D.journal_faults result.devices))
-        (Rose (K.faults sinks.old) (K.faults sinks.new)) (Rose 0 (K.client_faults sinks.new 1)) D.J.tells (D.seen devices) (S.text scripts.old names.1) result.cause) }
 {
     let Some(names) = run_words(words) else {
         return Ended::new(Cause::Usage, devices);

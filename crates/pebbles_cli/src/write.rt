@@ -1,7 +1,6 @@
-ghost use Rattle.std.specs.Prelude.{◌≡◌, ◌≤◌, true, false, [], ◌∷◌, ℕ};
-ghost use Rattle.disk_model.specs.Images.{Rose};
+ghost use Rattle.std.specs.Prelude.{◌≡◌, true, false, [], ◌∷◌, ℕ};
 ghost use Rattle.flsm_core.specs.Place.{Place, put_op};
-ghost use Rattle.pebbles_cli.specs.Writes.{Writes, after_write, OnUnsynced, after_stable, IsStable};
+ghost use Rattle.pebbles_cli.specs.Writes.{Writes, after_write, after_stable, IsStable};
 
 use crate::write_fault::WriteFault;
 use flsm_core::{Store, SyncFault};
@@ -13,8 +12,6 @@ fn make_stable<S: Store>(store: &mut S, number: Number) -> Result<Number, WriteF
     ensures stands { (p : Place) → S.stands store.old p → p.stopped ≡ false → S.stands store.new (after_stable p result) }
     ensures answers { IsStable number result }
     ensures session { S.session store.new ≡ S.session store.old }
-    ensures later { S.faults store.old ≤ S.faults store.new }
-    ensures cause { OnUnsynced result (Rose (S.faults store.old) (S.faults store.new)) }
 {
     match store.sync() {
         Ok(_) => Ok(number),
@@ -25,8 +22,8 @@ fn make_stable<S: Store>(store: &mut S, number: Number) -> Result<Number, WriteF
 
 /// Commits a batch that puts one key, with `sync` makes it stable, and gives its number.
 ///
-/// `Unsynced` comes only where the journal failed in this call. `Stopped` comes exactly where it has failed before, else `Limit` exactly where
-/// the number would be passed, or `Memory`; these three change nothing.
+/// `Unsynced` comes only where the journal failed in this call. `Stopped` comes exactly where it has failed before, else
+/// `Limit` exactly where the number would be passed, or `Memory`; these three change nothing.
 pub fn write<S: Store>(
     store: &mut S,
     key: Key,
@@ -34,11 +31,11 @@ pub fn write<S: Store>(
     sync: bool,
 ) -> Result<Number, WriteFault>
     requires { (p : Place) × S.stands store.old p }
-    ensures stands { (p : Place) → S.stands store.old p → S.stands store.new (after_write (S.session store.old) p (put_op key value ∷ []) sync result) }
-    ensures answers { (p : Place) → S.stands store.old p → Writes (S.session store.old) p (put_op key value ∷ []) sync result }
+    ensures stands { (p : Place) → S.stands store.old p
+        → S.stands store.new (after_write (S.session store.old) p (put_op key value ∷ []) sync result) }
+    ensures answers { (p : Place) → S.stands store.old p
+        → Writes (S.session store.old) p (put_op key value ∷ []) sync result }
     ensures session { S.session store.new ≡ S.session store.old }
-    ensures later { S.faults store.old ≤ S.faults store.new }
-    ensures cause { OnUnsynced result (Rose (S.faults store.old) (S.faults store.new)) }
 {
     let number = match store.put(key, value) {
         Ok(number) => number,

@@ -1,10 +1,8 @@
 use Rattle.std.proofs.Common.{rules, ◌≡◌, ◌+◌, true, false, [], ◌∷◌, ◌++◌, length, take, refl, sym, ap, ◌∙◌, subst, arith}
 use Rattle.std.specs.Result.{is_err}
 use Rattle.std.specs.Vec.Iter.{into_iter_items, into_iter_len}
-use Rattle.disk_model.specs.Images.{Rose}
 use Rattle.pebbles_cli.specs.Tells.{TellsOne}
-use Rattle.pebbles_cli.specs.Causes.{LineCause}
-use Rattle.pebbles_cli.proofs.Serving.{since_none, took_none, took_more, took_front, goes_on, stops, ends, journal_more}
+use Rattle.pebbles_cli.proofs.Serving.{since_none, took_none, took_more, took_front, goes_on, stops, ends}
 use Rattle.pebbles_cli.proofs.serve.serve.Goals as goal
 
 pub loop-command-init : goal.loop-command-init
@@ -25,10 +23,8 @@ loop-command-init g c =
       count = search rules;
       some = c.requires;
       session = refl;
-      store_later = omega arith;
       label = refl;
       sink_later = omega arith;
-      journal = tt;
     }
 
 pub returns-then-is_err-clause-told : goal.returns-then-is_err-clause-told
@@ -49,12 +45,6 @@ returns-then-is_err-clause-told g c = λ old stands.
         ),
       ),
     )
-
-pub returns-then-is_err-clause-journal : goal.returns-then-is_err-clause-journal
-returns-then-is_err-clause-journal g c =
-    subst (LineCause (Rose (g.S.Store.faults c.args.store.now) (g.S.Store.faults c.answer-told.new.store))) (sym c.or-fault.ensures)
-    (journal_more c.loop-command.fault c.answer-told.result (g.S.Store.faults c.args.store.now) (g.S.Store.faults c.loop-command.store) (g.S.Store.faults c.answer-told.new.store)
-    c.loop-command.invariant.store_later c.answer-told.ensures.later c.loop-command.invariant.journal c.answer-told.ensures.cause)
 
 pub loop-command-preserved : goal.loop-command-preserved
 loop-command-preserved g c = record {
@@ -81,13 +71,8 @@ loop-command-preserved g c = record {
       omega (arith, fewer, lengths, c.loop-command.invariant.count);
   some = let one = c.answer-told.ensures.told c.loop-command.invariant.some.0 c.loop-command.invariant.some.1 in (one.0, one.1.0);
   session = c.answer-told.ensures.session ∙ c.loop-command.invariant.session;
-  store_later = omega (arith, c.answer-told.ensures.later, c.loop-command.invariant.store_later);
   label = c.put.ensures.label ∙ c.loop-command.invariant.label;
   sink_later = omega (arith, c.put.ensures.cause.later, c.loop-command.invariant.sink_later);
-  journal =
-      subst (LineCause (Rose (g.S.Store.faults c.args.store.now) (g.S.Store.faults c.answer-told.new.store))) (sym c.or-fault.ensures)
-      (journal_more c.loop-command.fault c.answer-told.result (g.S.Store.faults c.args.store.now) (g.S.Store.faults c.loop-command.store) (g.S.Store.faults c.answer-told.new.store)
-      c.loop-command.invariant.store_later c.answer-told.ensures.later c.loop-command.invariant.journal c.answer-told.ensures.cause);
 }
 
 pub returns-clause-told : goal.returns-clause-told

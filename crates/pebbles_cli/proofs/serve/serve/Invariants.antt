@@ -1,8 +1,6 @@
 use Rattle.std.proofs.Common.{◌≡◌, ℕ, ◌≤◌, List, length}
-use Rattle.disk_model.specs.Images.{Rose}
 use Rattle.flsm_core.specs.Place.{Place}
 use Rattle.pebbles_cli.specs.Tells.{Since, TellsOne, TookMore}
-use Rattle.pebbles_cli.specs.Causes.{LineCause}
 use Rattle.std.specs.Vec.Iter.{into_iter_items, into_iter_len}
 use Rattle.pebbles_cli.proofs.serve.serve.Given as goal
 
@@ -13,8 +11,6 @@ invariant-loop-command g l = record {
   count : into_iter_len l.command-iterator ≡ length (into_iter_items l.command-iterator);
   some : (p : Place) × g.S.Store.stands l.store p;
   session : g.S.Store.session l.store ≡ g.S.Store.session l.fn.store;
-  store_later : g.S.Store.faults l.fn.store ≤ g.S.Store.faults l.store;
   label : g.K.Sink.label l.sink ≡ g.K.Sink.label l.fn.sink;
   sink_later : g.K.Sink.faults l.fn.sink ≤ g.K.Sink.faults l.sink;
-  journal : LineCause (Rose (g.S.Store.faults l.fn.store) (g.S.Store.faults l.store)) l.fault;
 }

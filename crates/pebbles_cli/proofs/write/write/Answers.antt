@@ -1,8 +1,7 @@
 use Rattle.std.proofs.Common.{◌∷◌, [], Err, sym, subst}
-use Rattle.disk_model.specs.Images.{Rose}
 use Rattle.flsm_core.specs.Place.{with_batch, put_op}
-use Rattle.pebbles_cli.specs.Writes.{Writes, after_write, OnUnsynced}
-use Rattle.pebbles_cli.proofs.Writing.{refused_leads, refused_answers, refused_cause, stable_leads, stable_answers}
+use Rattle.pebbles_cli.specs.Writes.{Writes, after_write}
+use Rattle.pebbles_cli.proofs.Writing.{refused_leads, refused_answers, stable_leads, stable_answers}
 use Rattle.pebbles_cli.proofs.write.write.Goals as goal
 
 pub make_stable-requires : goal.make_stable-requires
@@ -36,8 +35,3 @@ returns-in-Err-clause-answers g c = λ p stands.
     let ops = put_op c.args.key c.args.value ∷ [] in
     let session = g.S.Store.session c.args.store.now in
     subst (λ e. Writes session p ops c.args.sync (Err e)) (sym c.from.ensures) (refused_answers session p ops c.args.sync c.in-Err.fault (c.in-Err.ensures.answers p stands))
-
-pub returns-in-Err-clause-cause : goal.returns-in-Err-clause-cause
-returns-in-Err-clause-cause g c =
-    let rose = Rose (g.S.Store.faults c.args.store.now) (g.S.Store.faults c.put.new.self) in
-    subst (λ e. OnUnsynced (Err e) rose) (sym c.from.ensures) (refused_cause c.in-Err.fault rose)

@@ -1,6 +1,7 @@
 use Rattle.std.proofs.Common.{◌≡◌, ◌+◌, ◌*◌, ◌^◌, ◌<◌, ℕ, true, false, IsTrue, arith, refl, sym, ap, ◌∙◌, subst, inl, inr}
 use Rattle.peb_base.specs.Batches.{Batches, last_number}
 use Rattle.disk_model.specs.Images.{Image}
+use Rattle.disk_model.specs.Told.{told_by}
 use Rattle.flsm_core.specs.Logs.{Reads, ReadsAs, Stands}
 use Rattle.flsm_core.specs.Opening.{AreKept, IsFound, HasWatched}
 use Rattle.flsm_core.specs.Place.{opened, start_at}
@@ -24,7 +25,7 @@ returns-in-Ok-clause-stands g c = if_ok c.begin.result _ _ (λ state at told hon
     let one = c.one_reading.ensures.one_log in
     let reads = base_read c.args.profile honest base (d.seen c.args.journal) (d.may_leave c.args.journal) (read told).read on in
     let same : found.1 ≡ base = (same_base fin one c.one_batch.ensures d c.args.journal c.read_logs.new.journal c.args.profile found.0 found.1 base (read told) reads).batches in
-    let begun = start_at d c.args.journal c.args.profile honest base in
+    let begun = start_at (told_by d c.args.journal) c.args.profile honest base in
     at begun found.0 refl (subst (λ (b : Batches). IsFound c.args.profile c.in-Ok.found found.0 b) same found.2)
     (has_read fin one c.one_batch.ensures d c.args.journal c.read_logs.new.journal c.args.profile honest found.0 base
     (λ told. subst (λ (b : Batches). Read d c.args.journal c.read_logs.new.journal c.args.profile found.0 b) same (read told))
@@ -46,7 +47,7 @@ returns-in-Ok-clause-somewhere g c = if_ok c.begin.result _ _ (λ state at.
     } in (
       found.1,
       λ told. (found.0, reads told),
-      at (start_at d c.args.journal c.args.profile false found.1) found.0 refl found.2
+      at (start_at (told_by d c.args.journal) c.args.profile false found.1) found.0 refl found.2
           (has_read c.one_reading.ensures.finished c.one_reading.ensures.one_log c.one_batch.ensures d c.args.journal c.read_logs.new.journal c.args.profile false found.0 found.1
           read c.read_logs.ensures.watched c.read_logs.ensures.later (λ told. (found.0, reads told))),
     ))
@@ -71,7 +72,7 @@ returns-in-Ok-clause-fresh g c = if_ok c.begin.result _ _ (λ state session told
 
 pub returns-in-Ok-clause-untouched : goal.returns-in-Ok-clause-untouched
 returns-in-Ok-clause-untouched g c = if_err c.begin.result _ _ (λ e untouched other.
-    subst (λ j. HasWatched g.J.Journal c.args.journal j) (sym (untouched other)) c.read_logs.ensures.watched)
+    subst (λ j. HasWatched (told_by g.J.Journal c.args.journal) (told_by g.J.Journal j)) (sym (untouched other)) c.read_logs.ensures.watched)
     c.begin.ensures.untouched
 
 pub returns-in-Ok-clause-images : goal.returns-in-Ok-clause-images
@@ -89,7 +90,7 @@ returns-in-Ok-clause-images g c = if_err c.begin.result _ _ (λ e images told ba
     let one = c.one_reading.ensures.one_log in
     let reads = base_read c.args.profile true base (d.seen c.args.journal) (d.may_leave c.args.journal) (read told).read on in
     let same : found.1 ≡ base = (same_base fin one c.one_batch.ensures d c.args.journal c.read_logs.new.journal c.args.profile found.0 found.1 base (read told) reads).batches in
-    images told (start_at d c.args.journal c.args.profile true base) found.0 refl refl (subst (λ (b : Batches). IsFound c.args.profile c.in-Ok.found found.0 b) same found.2)
+    images told (start_at (told_by d c.args.journal) c.args.profile true base) found.0 refl refl (subst (λ (b : Batches). IsFound c.args.profile c.in-Ok.found found.0 b) same found.2)
     (has_read fin one c.one_batch.ensures d c.args.journal c.read_logs.new.journal c.args.profile true found.0 base
     (λ told. subst (λ (b : Batches). Read d c.args.journal c.read_logs.new.journal c.args.profile found.0 b) same (read told))
     c.read_logs.ensures.watched c.read_logs.ensures.later (λ told. on)) image left)
