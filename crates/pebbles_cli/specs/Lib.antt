@@ -1,11 +1,8 @@
 pub mod Causes
-pub mod Gone
 pub mod Names
 pub mod Outside
 pub mod Read
-pub mod Returning
 pub mod Shows
-pub mod Silent
 pub mod Tells
 pub mod Top
 pub mod Words
