@@ -3,7 +3,7 @@ use Rattle.std.proofs.Common.{◌≡◌, ◌≢◌, ℕ, Bool, true, false, inr,
 use Rattle.peb_base.specs.Batches.{Batches}
 use Rattle.peb_base.specs.declared.profile.Profile.TheVariants.{Small}
 use Rattle.disk_model.specs.Images.{Image, Rose}
-use Rattle.disk_model.specs.Told.{TellsTheSame}
+use Rattle.disk_model.specs.Told.{JournalTold, TellsTheSame}
 use Rattle.flsm_core.specs.declared.state.State.{State}
 use Rattle.flsm_core.specs.declared.open_fault.OpenFault.{OpenFault}
 use Rattle.flsm_core.specs.declared.open_fault.OpenFault.TheVariants as opens
@@ -15,14 +15,14 @@ use Rattle.flsm_core.specs.Opening.{OpensOn, OpenCause}
 use Rattle.script.specs.declared.cause.Cause.TheVariants as causes
 use Rattle.pebbles_cli.specs.Causes.{RunCause, opening_cause}
 
-pub same_then : {s0 s1 s2 : Image} {m0 m1 m2 : Image → Type 0} {t0 t1 t2 : ℕ} {l0 l1 l2 : ℕ → Image → Type 0} {f0 f1 f2 : ℕ}
-    → TellsTheSame s0 s1 m0 m1 t0 t1 l0 l1 f0 f1 → TellsTheSame s1 s2 m1 m2 t1 t2 l1 l2 f1 f2 → TellsTheSame s0 s2 m0 m2 t0 t2 l0 l2 f0 f2
+pub same_then : {a b c : JournalTold} → TellsTheSame a b → TellsTheSame b c → TellsTheSame a c
 same_then a b = record {
   bytes = b.bytes ∙ a.bytes;
   images = λ image. (λ left. (a.images image).0 ((b.images image).0 left), λ left. (b.images image).1 ((a.images image).1 left));
   time = b.time ∙ a.time;
   past = λ t image. (λ left. (a.past t image).0 ((b.past t image).0 left), λ left. (b.past t image).1 ((a.past t image).1 left));
   count = b.count ∙ a.count;
+  still_steady = λ steady. b.still_steady (a.still_steady steady);
 }
 
 pub opens_same : (honest : Bool) (base : Batches) (seen0 seen : Image) (may0 may : Image → Type 0) → seen ≡ seen0 → ((image : Image) → may image → may0 image)

@@ -24,9 +24,9 @@ pub record Outside : Type 1 where
 abbrev pub outside : {D J F P M K O : Type 0} → devices.Ghosts D J F P M → sinks.Ghosts K O → D → K → Outside
 outside d k devices sinks =
     record {
-      seen = d.seen devices;
-      may_leave = d.may_leave devices;
-      moment = d.moment devices;
+      seen = (d.journal_told devices).seen;
+      may_leave = (d.journal_told devices).may_leave;
+      moment = (d.journal_told devices).moment;
       directories = d.directories devices;
       names = k.names sinks;
       replies = k.took sinks 1;

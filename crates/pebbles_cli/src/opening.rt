@@ -38,18 +38,18 @@ pub fn open_store<D: Devices>(
 ) -> Result<State<D::J>, Cause>
     ensures opened { OnOk result (D.directories devices.new ≡ after_opening (after_choice dir.now (D.directories devices.old))) }
     ensures refused { OnErr result (OpensAtMost dir.now (D.directories devices.old) (D.directories devices.new)) }
-    ensures stands { IfOk result (λ state. IsTrue D.J.tells → (honest : Bool) (base : Batches) → OpensOn honest base (D.seen devices.old) (D.may_leave devices.old)
-        → IsAt D.J.Journal state (opened (D.moment devices.old) honest base)) }
-    ensures some { IfOk result (λ state. (base : Batches) × IsAt D.J.Journal state (opened (D.moment devices.old) false base)) }
-    ensures next { IfOk result (λ state. IsTrue D.J.tells → (base : Batches) → Stands base (D.seen devices.old) → IsNext base (D.seen devices.old) (state_session state)) }
-    ensures count { IfOk result (λ state. D.journal_faults devices.old ≤ D.J.faults (state_journal state)) }
-    ensures left { IfErr result (λ _. IsTrue D.J.tells → (base : Batches) → OpensOn true base (D.seen devices.old) (D.may_leave devices.old)
-        → (image : Image) → D.may_leave devices.new image → Stands base image) }
-    ensures count_err { IfErr result (λ _. D.journal_faults devices.old ≤ D.journal_faults devices.new) }
+    ensures stands { IfOk result (λ state. IsTrue D.J.tells → (honest : Bool) (base : Batches) → OpensOn honest base (D.journal_told devices.old).seen (D.journal_told devices.old).may_leave
+        → IsAt D.J.Journal state (opened (D.journal_told devices.old).moment honest base)) }
+    ensures some { IfOk result (λ state. (base : Batches) × IsAt D.J.Journal state (opened (D.journal_told devices.old).moment false base)) }
+    ensures next { IfOk result (λ state. IsTrue D.J.tells → (base : Batches) → Stands base (D.journal_told devices.old).seen → IsNext base (D.journal_told devices.old).seen (state_session state)) }
+    ensures count { IfOk result (λ state. (D.journal_told devices.old).faults ≤ D.J.faults (state_journal state)) }
+    ensures left { IfErr result (λ _. IsTrue D.J.tells → (base : Batches) → OpensOn true base (D.journal_told devices.old).seen (D.journal_told devices.old).may_leave
+        → (image : Image) → (D.journal_told devices.new).may_leave image → Stands base image) }
+    ensures count_err { IfErr result (λ _. (D.journal_told devices.old).faults ≤ (D.journal_told devices.new).faults) }
     ensures later { D.faults devices.old ≤ D.faults devices.new }
     ensures fault { IfErr result (λ cause. cause ≢ causes.Done) }
-    ensures cause { IfErr result (λ cause. RunCause (Rose (D.faults devices.old) (D.faults devices.new) ⊎ Rose (D.journal_faults devices.old) (D.journal_faults devices.new))
-        ⊥ ⊥ D.J.tells (D.seen devices.old) cause) }
+    ensures cause { IfErr result (λ cause. RunCause (Rose (D.faults devices.old) (D.faults devices.new) ⊎ Rose (D.journal_told devices.old).faults (D.journal_told devices.new).faults)
+        ⊥ ⊥ D.J.tells (D.journal_told devices.old).seen cause) }
 {
     let Ok(()) = devices.set(dir) else {
         return Err(Cause::Journal);
@@ -70,9 +70,9 @@ pub fn open_store<D: Devices>(
 /// Hands the journal of a store back to the devices.
 pub fn close_store<D: Devices>(devices: &mut D, state: State<D::J>)
     ensures left { IsTrue D.J.tells → (p : Place) → IsAt D.J.Journal state p → IsTrue p.honest
-        → (image : Image) → D.may_leave devices.new image → Leaves p.settled (all_of p) image }
+        → (image : Image) → (D.journal_told devices.new).may_leave image → Leaves p.settled (all_of p) image }
     ensures directories { D.directories devices.new ≡ D.directories devices.old }
-    ensures count { D.journal_faults devices.new ≡ D.J.faults (state_journal state) }
+    ensures count { (D.journal_told devices.new).faults ≡ D.J.faults (state_journal state) }
     ensures faults { D.faults devices.new ≡ D.faults devices.old }
 {
     devices.back(state.close());

@@ -56,13 +56,13 @@ fn run_opened<D: Devices, K: Sinks>(
     requires fresh { IsFresh (K.One.taken replies) }
     requires unused { K.One.faults replies ≡ 0 }
     ensures ran { (p : Place) → IsAt D.J.Journal opened p → p.stopped ≡ false
-        → Ran D.J.tells (state_session opened) p commands.items (K.took sinks.new 1) (K.reported sinks.old) (K.reported sinks.new) (D.may_leave devices.new) result }
+        → Ran D.J.tells (state_session opened) p commands.items (K.took sinks.new 1) (K.reported sinks.old) (K.reported sinks.new) (D.journal_told devices.new).may_leave result }
     ensures directories { D.directories devices.new ≡ D.directories devices.old }
     ensures names { K.names sinks.new ≡ after_return 1 (K.One.label replies) (K.names sinks.old) }
-    ensures count { D.J.faults (state_journal opened) ≤ D.journal_faults devices.new }
+    ensures count { D.J.faults (state_journal opened) ≤ (D.journal_told devices.new).faults }
     ensures faults { D.faults devices.new ≡ D.faults devices.old }
     ensures sinks_later { K.faults sinks.old ≤ K.faults sinks.new }
-    ensures cause { (seen : Image) → RunCause (Rose (D.J.faults (state_journal opened)) (D.journal_faults devices.new)) (Rose (K.faults sinks.old) (K.faults sinks.new))
+    ensures cause { (seen : Image) → RunCause (Rose (D.J.faults (state_journal opened)) (D.journal_told devices.new).faults) (Rose (K.faults sinks.old) (K.faults sinks.new))
         (Rose 0 (K.client_faults sinks.new 1)) D.J.tells seen result }
 {
     let mut state = opened;
@@ -85,13 +85,13 @@ pub fn run_commands<D: Devices, K: Sinks>(
     sinks: &mut K,
     commands: Vec<Command>,
 ) -> Cause
-    ensures ran { IsTrue D.J.tells → (honest : Bool) (base : Batches) → OpensOn honest base (D.seen devices.old) (D.may_leave devices.old)
-        → NotRun (Uses dir.now file.now (D.directories devices.old) (D.directories devices.new) (K.names sinks.old) (K.names sinks.new)) honest base (K.took sinks.old 1) (K.took sinks.new 1) (K.reported sinks.old) (K.reported sinks.new) (D.may_leave devices.new) result
-        ⊎ RanOn (Uses dir.now file.now (D.directories devices.old) (D.directories devices.new) (K.names sinks.old) (K.names sinks.new)) true D.J.tells honest base (D.seen devices.old) (D.moment devices.old) commands.items (K.took sinks.new 1) (K.reported sinks.old) (K.reported sinks.new) (D.may_leave devices.new) result }
-    ensures somehow { (base : Batches) × (NotRun (Uses dir.now file.now (D.directories devices.old) (D.directories devices.new) (K.names sinks.old) (K.names sinks.new)) false base (K.took sinks.old 1) (K.took sinks.new 1) (K.reported sinks.old) (K.reported sinks.new) (D.may_leave devices.new) result
-        ⊎ RanOn (Uses dir.now file.now (D.directories devices.old) (D.directories devices.new) (K.names sinks.old) (K.names sinks.new)) false D.J.tells false base (D.seen devices.old) (D.moment devices.old) commands.items (K.took sinks.new 1) (K.reported sinks.old) (K.reported sinks.new) (D.may_leave devices.new) result) }
-    ensures cause { RunCause (Rose (D.faults devices.old) (D.faults devices.new) ⊎ Rose (D.journal_faults devices.old) (D.journal_faults devices.new))
-        (Rose (K.faults sinks.old) (K.faults sinks.new)) (Rose 0 (K.client_faults sinks.new 1)) D.J.tells (D.seen devices.old) result }
+    ensures ran { IsTrue D.J.tells → (honest : Bool) (base : Batches) → OpensOn honest base (D.journal_told devices.old).seen (D.journal_told devices.old).may_leave
+        → NotRun (Uses dir.now file.now (D.directories devices.old) (D.directories devices.new) (K.names sinks.old) (K.names sinks.new)) honest base (K.took sinks.old 1) (K.took sinks.new 1) (K.reported sinks.old) (K.reported sinks.new) (D.journal_told devices.new).may_leave result
+        ⊎ RanOn (Uses dir.now file.now (D.directories devices.old) (D.directories devices.new) (K.names sinks.old) (K.names sinks.new)) true D.J.tells honest base (D.journal_told devices.old).seen (D.journal_told devices.old).moment commands.items (K.took sinks.new 1) (K.reported sinks.old) (K.reported sinks.new) (D.journal_told devices.new).may_leave result }
+    ensures somehow { (base : Batches) × (NotRun (Uses dir.now file.now (D.directories devices.old) (D.directories devices.new) (K.names sinks.old) (K.names sinks.new)) false base (K.took sinks.old 1) (K.took sinks.new 1) (K.reported sinks.old) (K.reported sinks.new) (D.journal_told devices.new).may_leave result
+        ⊎ RanOn (Uses dir.now file.now (D.directories devices.old) (D.directories devices.new) (K.names sinks.old) (K.names sinks.new)) false D.J.tells false base (D.journal_told devices.old).seen (D.journal_told devices.old).moment commands.items (K.took sinks.new 1) (K.reported sinks.old) (K.reported sinks.new) (D.journal_told devices.new).may_leave result) }
+    ensures cause { RunCause (Rose (D.faults devices.old) (D.faults devices.new) ⊎ Rose (D.journal_told devices.old).faults (D.journal_told devices.new).faults)
+        (Rose (K.faults sinks.old) (K.faults sinks.new)) (Rose 0 (K.client_faults sinks.new 1)) D.J.tells (D.journal_told devices.old).seen result }
 {
     let Ok(name) = reply_name(alloc, file) else {
         return Cause::Memory;

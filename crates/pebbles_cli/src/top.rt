@@ -29,14 +29,14 @@ fn play<D: Devices, S: Scripts, K: Sinks>(
 ) -> Cause
     ensures untouched { IsBeforeOpening result → devices.new ≡ devices.old }
     ensures silent { IsBeforeOpening result → sinks.new ≡ sinks.old }
-    ensures ran { IsTrue D.J.tells → (honest : Bool) (base : Batches) → OpensOn honest base (D.seen devices.old) (D.may_leave devices.old)
+    ensures ran { IsTrue D.J.tells → (honest : Bool) (base : Batches) → OpensOn honest base (D.journal_told devices.old).seen (D.journal_told devices.old).may_leave
         → PlaysOn (dir.now, file.now) true D.J.tells honest base (S.text scripts.old file.now)
             (outside D.Devices K.Sinks devices.old sinks.old) (outside D.Devices K.Sinks devices.new sinks.new) result }
     ensures somehow { (base : Batches) × PlaysOn (dir.now, file.now) false D.J.tells false base (S.text scripts.old file.now)
         (outside D.Devices K.Sinks devices.old sinks.old) (outside D.Devices K.Sinks devices.new sinks.new) result }
     ensures cause { PlayCause (Rose (S.faults scripts.old) (S.faults scripts.new))
-        (Rose (D.faults devices.old) (D.faults devices.new) ⊎ Rose (D.journal_faults devices.old) (D.journal_faults devices.new))
-        (Rose (K.faults sinks.old) (K.faults sinks.new)) (Rose 0 (K.client_faults sinks.new 1)) D.J.tells (D.seen devices.old) (S.text scripts.old file.now) result }
+        (Rose (D.faults devices.old) (D.faults devices.new) ⊎ Rose (D.journal_told devices.old).faults (D.journal_told devices.new).faults)
+        (Rose (K.faults sinks.old) (K.faults sinks.new)) (Rose 0 (K.client_faults sinks.new 1)) D.J.tells (D.journal_told devices.old).seen (S.text scripts.old file.now) result }
 {
     let text = match read_script(alloc, scripts, file) {
         Ok(text) => text,
@@ -70,14 +70,14 @@ pub fn top_plain<D: Devices, S: Scripts, K: Sinks>(
     ensures untouched { IsBeforeOpening result.cause → result.devices ≡ devices }
     ensures silent { IsBeforeOpening result.cause → sinks.new ≡ sinks.old }
     ensures unread { (result.cause ≡ causes.Usage) → scripts.new ≡ scripts.old }
-    ensures ran { IfSome (run_words (map string_bytes words.now)) (λ names. IsTrue D.J.tells → (honest : Bool) (base : Batches) → OpensOn honest base (D.seen devices) (D.may_leave devices)
+    ensures ran { IfSome (run_words (map string_bytes words.now)) (λ names. IsTrue D.J.tells → (honest : Bool) (base : Batches) → OpensOn honest base (D.journal_told devices).seen (D.journal_told devices).may_leave
         → PlaysOn names true D.J.tells honest base (S.text scripts.old names.1)
             (outside D.Devices K.Sinks devices sinks.old) (outside D.Devices K.Sinks result.devices sinks.new) result.cause) }
     ensures somehow { IfSome (run_words (map string_bytes words.now)) (λ names. (base : Batches) × PlaysOn names false D.J.tells false base (S.text scripts.old names.1)
         (outside D.Devices K.Sinks devices sinks.old) (outside D.Devices K.Sinks result.devices sinks.new) result.cause) }
     ensures cause { IfSome (run_words (map string_bytes words.now)) (λ names. PlayCause (Rose (S.faults scripts.old) (S.faults scripts.new))
-        (Rose (D.faults devices) (D.faults result.devices) ⊎ Rose (D.journal_faults devices) (D.journal_faults result.devices))
-        (Rose (K.faults sinks.old) (K.faults sinks.new)) (Rose 0 (K.client_faults sinks.new 1)) D.J.tells (D.seen devices) (S.text scripts.old names.1) result.cause) }
+        (Rose (D.faults devices) (D.faults result.devices) ⊎ Rose (D.journal_told devices).faults (D.journal_told result.devices).faults)
+        (Rose (K.faults sinks.old) (K.faults sinks.new)) (Rose 0 (K.client_faults sinks.new 1)) D.J.tells (D.journal_told devices).seen (S.text scripts.old names.1) result.cause) }
 {
     let Some(names) = run_words(words) else {
         return Ended::new(Cause::Usage, devices);
