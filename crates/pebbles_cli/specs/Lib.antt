@@ -1,12 +1,9 @@
 pub mod Causes
-pub mod Gone
 pub mod Names
 pub mod Numbers
 pub mod Outside
 pub mod Read
-pub mod Returning
 pub mod Shows
-pub mod Silent
 pub mod Tells
 pub mod Top
 pub mod Words

@@ -3,46 +3,23 @@
 
 mod closing;
 mod ended;
-mod faults;
-mod file_at;
-mod folder;
-mod journal_folder;
 mod laws;
-mod makers;
 mod opening;
 mod read_fault;
 mod read_script;
-mod real_devices;
-mod real_journal;
-#[cfg(test)]
-mod real_journal_tests;
-mod real_maker;
-mod real_port;
-mod real_scripts;
-mod real_sink;
-mod real_sinks;
-mod real_table;
-#[cfg(test)]
-mod real_tables_tests;
-mod returned;
 mod run;
 mod serve;
 mod serve_client;
 mod served;
-mod taken_away;
 #[cfg(test)]
 mod tests;
 mod top;
-#[cfg(test)]
-mod watched;
 mod words;
 mod write;
 mod write_fault;
 
-use crate::real_devices::RealDevices;
-use crate::real_scripts::RealScripts;
-use crate::real_sinks::RealSinks;
 use crate::top::top_plain;
+use disk_real::{RealDevices, RealScripts, RealSinks};
 use script::Cause;
 use std::io::ErrorKind;
 use std::process::ExitCode;

@@ -12,15 +12,15 @@ use Rattle.pebbles_cli.proofs.opening.open_store.Goals as goal
 pub returns-in-Ok-open-clause-stands : goal.returns-in-Ok-open-clause-stands
 returns-in-Ok-open-clause-stands g c = λ told honest base on.
     let same = same_then c.set.ensures.told c.in-Ok-journal.ensures.journal in
-    moved honest base (g.D.J.Journal.moment c.in-Ok-journal.journal) (g.D.Devices.moment c.args.devices.now) same.time (c.in-Ok-open.ensures.stands told honest base
-    (opens_same honest base (g.D.Devices.seen c.args.devices.now) (g.D.J.Journal.seen c.in-Ok-journal.journal) (g.D.Devices.may_leave c.args.devices.now) (g.D.J.Journal.may_leave c.in-Ok-journal.journal)
+    moved honest base (g.D.J.Journal.moment c.in-Ok-journal.journal) (g.D.Devices.journal_told c.args.devices.now).moment same.time (c.in-Ok-open.ensures.stands told honest base
+    (opens_same honest base (g.D.Devices.journal_told c.args.devices.now).seen (g.D.J.Journal.seen c.in-Ok-journal.journal) (g.D.Devices.journal_told c.args.devices.now).may_leave (g.D.J.Journal.may_leave c.in-Ok-journal.journal)
     same.bytes (λ image. (same.images image).0) on))
 
 pub returns-in-Ok-open-clause-some : goal.returns-in-Ok-open-clause-some
 returns-in-Ok-open-clause-some g c =
     let same = same_then c.set.ensures.told c.in-Ok-journal.ensures.journal in
     let some = c.in-Ok-open.ensures.some in
-    (some.0, moved false some.0 (g.D.J.Journal.moment c.in-Ok-journal.journal) (g.D.Devices.moment c.args.devices.now) same.time some.1)
+    (some.0, moved false some.0 (g.D.J.Journal.moment c.in-Ok-journal.journal) (g.D.Devices.journal_told c.args.devices.now).moment same.time some.1)
 
 pub returns-in-Ok-open-clause-next : goal.returns-in-Ok-open-clause-next
 returns-in-Ok-open-clause-next g c = λ told base stands.
@@ -48,7 +48,7 @@ returns-in-Err g c =
     let faults0 = g.D.J.Journal.faults c.in-Ok-journal.journal in
     let faults1 = g.D.J.Journal.faults c.in-Err.refused.1 in
     let rose = Rose faults0 faults1 in
-    let seen = g.D.Devices.seen c.args.devices.now in
+    let seen = (g.D.Devices.journal_told c.args.devices.now).seen in
     let why : OpenCause rose g.D.J.Journal.tells seen Small c.in-Err.refused.0 = subst (λ s. OpenCause rose g.D.J.Journal.tells s Small c.in-Err.refused.0) same.bytes c.in-Err.ensures.cause in
     record {
       opened = tt;
@@ -64,7 +64,7 @@ returns-in-Err g c =
       cause =
           subst (RunCause _ ⊥ ⊥ g.D.J.Journal.tells seen) (sym c.opening_cause.ensures)
           (opening_is c.in-Err.refused.0 rose _ ⊥ ⊥ g.D.J.Journal.tells seen
-          (λ r. inr (rose_same faults0 (g.D.Devices.journal_faults c.args.devices.now) faults1 (g.D.Devices.journal_faults c.back.new.self) same.count back.count r)) why);
+          (λ r. inr (rose_same faults0 (g.D.Devices.journal_told c.args.devices.now).faults faults1 (g.D.Devices.journal_told c.back.new.self).faults same.count back.count r)) why);
     }
 
 pub returns-in_default : goal.returns-in_default

@@ -13,14 +13,14 @@ use Rattle.pebbles_cli.proofs.run.run_commands.Goals as goal
 pub returns-in_default-clause-somehow : goal.returns-in_default-clause-somehow
 returns-in_default-clause-somehow g c = (
   [],
-  inl (not_run false [] (g.K.Sinks.took c.args.sinks.now 1) (g.K.Sinks.took c.args.sinks.now 1) (g.K.Sinks.reported c.args.sinks.now) (g.K.Sinks.reported c.args.sinks.now) (g.D.Devices.may_leave c.args.devices.now) _
+  inl (not_run false [] (g.K.Sinks.took c.args.sinks.now 1) (g.K.Sinks.took c.args.sinks.now 1) (g.K.Sinks.reported c.args.sinks.now) (g.K.Sinks.reported c.args.sinks.now) (g.D.Devices.journal_told c.args.devices.now).may_leave _
       memory_is_fault refl refl (record { directory = inl refl; no_sink = refl }) (λ is. absurd cc)),
 )
 
 pub returns-in_default-new-clause-somehow : goal.returns-in_default-new-clause-somehow
 returns-in_default-new-clause-somehow g c = (
   [],
-  inl (not_run false [] (g.K.Sinks.took c.args.sinks.now 1) (g.K.Sinks.took c.args.sinks.now 1) (g.K.Sinks.reported c.args.sinks.now) (g.K.Sinks.reported c.args.sinks.now) (g.D.Devices.may_leave c.args.devices.now) _
+  inl (not_run false [] (g.K.Sinks.took c.args.sinks.now 1) (g.K.Sinks.took c.args.sinks.now 1) (g.K.Sinks.reported c.args.sinks.now) (g.K.Sinks.reported c.args.sinks.now) (g.D.Devices.journal_told c.args.devices.now).may_leave _
       memory_is_fault refl refl (record { directory = inl refl; no_sink = refl }) (λ is. absurd cc)),
 )
 
@@ -28,28 +28,28 @@ pub returns-in-Err-clause-ran : goal.returns-in-Err-clause-ran
 returns-in-Err-clause-ran g c = λ told honest base on.
     let took = g.K.Sinks.took c.args.sinks.now 1 in
     let reported = g.K.Sinks.reported c.args.sinks.now in
-    inl (not_run honest base took took reported reported (g.D.Devices.may_leave c.open_store.new.devices) c.in-Err.cause c.in-Err.ensures.fault refl refl (record { directory = c.in-Err.ensures.refused; no_sink = refl })
-    (λ is image left. c.in-Err.ensures.left told base (honest_opens honest base (g.D.Devices.seen c.args.devices.now) (g.D.Devices.may_leave c.args.devices.now) is on) image left))
+    inl (not_run honest base took took reported reported (g.D.Devices.journal_told c.open_store.new.devices).may_leave c.in-Err.cause c.in-Err.ensures.fault refl refl (record { directory = c.in-Err.ensures.refused; no_sink = refl })
+    (λ is image left. c.in-Err.ensures.left told base (honest_opens honest base (g.D.Devices.journal_told c.args.devices.now).seen (g.D.Devices.journal_told c.args.devices.now).may_leave is on) image left))
 
 pub returns-in-Err-clause-somehow : goal.returns-in-Err-clause-somehow
 returns-in-Err-clause-somehow g c =
     let took = g.K.Sinks.took c.args.sinks.now 1 in
     let reported = g.K.Sinks.reported c.args.sinks.now in
-    ([], inl (not_run false [] took took reported reported (g.D.Devices.may_leave c.open_store.new.devices) c.in-Err.cause c.in-Err.ensures.fault refl refl (record { directory = c.in-Err.ensures.refused; no_sink = refl }) (λ is. absurd cc)))
+    ([], inl (not_run false [] took took reported reported (g.D.Devices.journal_told c.open_store.new.devices).may_leave c.in-Err.cause c.in-Err.ensures.fault refl refl (record { directory = c.in-Err.ensures.refused; no_sink = refl }) (λ is. absurd cc)))
 
 pub returns-in_default-client-clause-ran : goal.returns-in_default-client-clause-ran
 returns-in_default-client-clause-ran g c = λ told honest base on.
     inl (not_run honest base (g.K.Sinks.took c.args.sinks.now 1) (g.K.Sinks.took c.client.new.self 1) (g.K.Sinks.reported c.args.sinks.now) (g.K.Sinks.reported c.client.new.self)
-    (g.D.Devices.may_leave c.close_store.new.devices) (Sink 1) sink_is_fault (c.in_default-client.ensures.others 1) c.in_default-client.ensures.report
+    (g.D.Devices.journal_told c.close_store.new.devices).may_leave (Sink 1) sink_is_fault (c.in_default-client.ensures.others 1) c.in_default-client.ensures.report
     (record { directory = inr (inr (c.close_store.ensures.directories ∙ c.in-Ok-open_store.ensures.opened)); no_sink = c.in_default-client.ensures.unopened })
     (λ is image left. leaves_base base image
-    (c.close_store.ensures.left told (opened (g.D.Devices.moment c.args.devices.now) honest base) (c.in-Ok-open_store.ensures.stands told honest base on) is image left)))
+    (c.close_store.ensures.left told (opened (g.D.Devices.journal_told c.args.devices.now).moment honest base) (c.in-Ok-open_store.ensures.stands told honest base on) is image left)))
 
 pub returns-in_default-client-clause-somehow : goal.returns-in_default-client-clause-somehow
 returns-in_default-client-clause-somehow g c = (
   [],
   inl (not_run false [] (g.K.Sinks.took c.args.sinks.now 1) (g.K.Sinks.took c.client.new.self 1) (g.K.Sinks.reported c.args.sinks.now) (g.K.Sinks.reported c.client.new.self)
-      (g.D.Devices.may_leave c.close_store.new.devices) (Sink 1) sink_is_fault (c.in_default-client.ensures.others 1) c.in_default-client.ensures.report
+      (g.D.Devices.journal_told c.close_store.new.devices).may_leave (Sink 1) sink_is_fault (c.in_default-client.ensures.others 1) c.in_default-client.ensures.report
       (record { directory = inr (inr (c.close_store.ensures.directories ∙ c.in-Ok-open_store.ensures.opened)); no_sink = c.in_default-client.ensures.unopened }) (λ is. absurd cc)),
 )
 
@@ -58,9 +58,9 @@ returns-in_default-client-clause-cause g c = inr (refl, inl c.in_default-client.
 
 pub returns-clause-ran : goal.returns-clause-ran
 returns-clause-ran g c = λ told honest base on.
-    let seen = g.D.Devices.seen c.args.devices.now in
-    let may = g.D.Devices.may_leave c.args.devices.now in
-    let start = opened (g.D.Devices.moment c.args.devices.now) honest base in
+    let seen = (g.D.Devices.journal_told c.args.devices.now).seen in
+    let may = (g.D.Devices.journal_told c.args.devices.now).may_leave in
+    let start = opened (g.D.Devices.journal_told c.args.devices.now).moment honest base in
     inr (record {
       session = state_session c.in-Ok-open_store.state;
       names = record {
@@ -71,14 +71,14 @@ returns-clause-ran g c = λ told honest base on.
       next = λ known. c.in-Ok-open_store.ensures.next told base (opens_read honest base seen may (g.met.D.Devices.read_is_left c.args.devices.now told) on);
       ran =
           subst (λ r. Ran g.D.J.Journal.tells (state_session c.in-Ok-open_store.state) start c.args.commands.items (g.K.Sinks.took c.run_opened.new.sinks 1) r (g.K.Sinks.reported c.run_opened.new.sinks)
-          (g.D.Devices.may_leave c.run_opened.new.devices) c.run_opened.result) c.in-Ok-client.ensures.report
+          (g.D.Devices.journal_told c.run_opened.new.devices).may_leave c.run_opened.result) c.in-Ok-client.ensures.report
           (c.run_opened.ensures.ran start (c.in-Ok-open_store.ensures.stands told honest base on) refl);
     })
 
 pub returns-clause-somehow : goal.returns-clause-somehow
 returns-clause-somehow g c =
     let some = c.in-Ok-open_store.ensures.some in
-    let start = opened (g.D.Devices.moment c.args.devices.now) false some.0 in (
+    let start = opened (g.D.Devices.journal_told c.args.devices.now).moment false some.0 in (
       some.0,
       inr (record {
         session = state_session c.in-Ok-open_store.state;
@@ -90,19 +90,19 @@ returns-clause-somehow g c =
         next = λ known. absurd cc;
         ran =
             subst (λ r. Ran g.D.J.Journal.tells (state_session c.in-Ok-open_store.state) start c.args.commands.items (g.K.Sinks.took c.run_opened.new.sinks 1) r (g.K.Sinks.reported c.run_opened.new.sinks)
-            (g.D.Devices.may_leave c.run_opened.new.devices) c.run_opened.result) c.in-Ok-client.ensures.report
+            (g.D.Devices.journal_told c.run_opened.new.devices).may_leave c.run_opened.result) c.in-Ok-client.ensures.report
             (c.run_opened.ensures.ran start some.1 refl);
       }),
     )
 
 pub returns-clause-cause : goal.returns-clause-cause
 returns-clause-cause g c =
-    let seen = g.D.Devices.seen c.args.devices.now in
+    let seen = (g.D.Devices.journal_told c.args.devices.now).seen in
     let d0 = g.D.Devices.faults c.args.devices.now in
     let d1 = g.D.Devices.faults c.run_opened.new.devices in
-    let f0 = g.D.Devices.journal_faults c.args.devices.now in
+    let f0 = (g.D.Devices.journal_told c.args.devices.now).faults in
     let f1 = g.D.J.Journal.faults (state_journal c.in-Ok-open_store.state) in
-    let f2 = g.D.Devices.journal_faults c.run_opened.new.devices in
+    let f2 = (g.D.Devices.journal_told c.run_opened.new.devices).faults in
     let s0 = g.K.Sinks.faults c.args.sinks.now in
     let s1 = g.K.Sinks.faults c.client.new.self in
     let s2 = g.K.Sinks.faults c.run_opened.new.sinks in

@@ -14,7 +14,7 @@ returns-clause-ran g c = λ p at running.
     let closed = c.settle-closing.ensures.stands served.1 served.2.0 in
     ran_from g.D.J.Journal.tells (state_session c.args.opened) p served.1 c.args.commands.items served.0 c.serve-served.result.fault c.serve-served.result.sink_failed closed.0 c.settle-closing.result
     c.write_report-report.result c.last-last.result (g.K.One.Sink.taken c.args.replies) (g.K.One.Sink.taken c.serve-served.new.sink) (g.K.Sinks.took c.write_report-report.new.sinks 1)
-    (g.K.Sinks.reported c.args.sinks.now) (g.K.Sinks.reported c.back.new.self) (g.K.Sinks.reported c.write_report-report.new.sinks) (g.D.Devices.may_leave c.close_store.new.devices) c.end_of.result
+    (g.K.Sinks.reported c.args.sinks.now) (g.K.Sinks.reported c.back.new.self) (g.K.Sinks.reported c.write_report-report.new.sinks) (g.D.Devices.journal_told c.close_store.new.devices).may_leave c.end_of.result
     (Rose (g.D.J.Journal.faults (state_journal c.args.opened)) (g.D.J.Journal.faults (state_journal c.serve-served.new.store)))
     (Rose (g.D.J.Journal.faults (state_journal c.serve-served.new.store)) (g.D.J.Journal.faults (state_journal c.settle-closing.new.store)))
     (Rose (g.K.Sinks.faults c.back.new.self) (g.K.Sinks.faults c.write_report-report.new.sinks)) running served.2.1.1 closed.1 closed.2
@@ -27,7 +27,7 @@ returns-clause-cause g c = λ seen.
     let f0 = g.D.J.Journal.faults (state_journal c.args.opened) in
     let f1 = g.D.J.Journal.faults (state_journal c.serve-served.new.store) in
     let f2 = g.D.J.Journal.faults (state_journal c.settle-closing.new.store) in
-    let f3 = g.D.Devices.journal_faults c.close_store.new.devices in
+    let f3 = (g.D.Devices.journal_told c.close_store.new.devices).faults in
     let s1 = g.K.Sinks.faults c.write_report-report.new.sinks in
     let journal = Rose f0 f3 in
     let sinks = Rose (g.K.Sinks.faults c.args.sinks.now) s1 in

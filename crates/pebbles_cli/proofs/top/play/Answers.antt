@@ -8,15 +8,15 @@ use Rattle.pebbles_cli.proofs.top.play.Goals as goal
 pub returns-clause-untouched : goal.returns-clause-untouched
 returns-clause-untouched g c = λ before.
     absurd (run_is_after c.run_commands.result
-    (Rose (g.D.Devices.faults c.args.devices.now) (g.D.Devices.faults c.run_commands.new.devices) ⊎ Rose (g.D.Devices.journal_faults c.args.devices.now) (g.D.Devices.journal_faults c.run_commands.new.devices))
-    (Rose (g.K.Sinks.faults c.args.sinks.now) (g.K.Sinks.faults c.run_commands.new.sinks)) (Rose 0 (g.K.Sinks.client_faults c.run_commands.new.sinks 1)) g.D.J.Journal.tells (g.D.Devices.seen c.args.devices.now)
+    (Rose (g.D.Devices.faults c.args.devices.now) (g.D.Devices.faults c.run_commands.new.devices) ⊎ Rose (g.D.Devices.journal_told c.args.devices.now).faults (g.D.Devices.journal_told c.run_commands.new.devices).faults)
+    (Rose (g.K.Sinks.faults c.args.sinks.now) (g.K.Sinks.faults c.run_commands.new.sinks)) (Rose 0 (g.K.Sinks.client_faults c.run_commands.new.sinks 1)) g.D.J.Journal.tells (g.D.Devices.journal_told c.args.devices.now).seen
     c.run_commands.ensures.cause before)
 
 pub returns-clause-silent : goal.returns-clause-silent
 returns-clause-silent g c = λ before.
     absurd (run_is_after c.run_commands.result
-    (Rose (g.D.Devices.faults c.args.devices.now) (g.D.Devices.faults c.run_commands.new.devices) ⊎ Rose (g.D.Devices.journal_faults c.args.devices.now) (g.D.Devices.journal_faults c.run_commands.new.devices))
-    (Rose (g.K.Sinks.faults c.args.sinks.now) (g.K.Sinks.faults c.run_commands.new.sinks)) (Rose 0 (g.K.Sinks.client_faults c.run_commands.new.sinks 1)) g.D.J.Journal.tells (g.D.Devices.seen c.args.devices.now)
+    (Rose (g.D.Devices.faults c.args.devices.now) (g.D.Devices.faults c.run_commands.new.devices) ⊎ Rose (g.D.Devices.journal_told c.args.devices.now).faults (g.D.Devices.journal_told c.run_commands.new.devices).faults)
+    (Rose (g.K.Sinks.faults c.args.sinks.now) (g.K.Sinks.faults c.run_commands.new.sinks)) (Rose 0 (g.K.Sinks.client_faults c.run_commands.new.sinks 1)) g.D.J.Journal.tells (g.D.Devices.journal_told c.args.devices.now).seen
     c.run_commands.ensures.cause before)
 
 pub returns-clause-ran : goal.returns-clause-ran
@@ -40,6 +40,6 @@ returns-clause-cause g c =
     let whole : IsWhole text c.deref.result.now = subst (IsWhole text) (sym c.deref.ensures.value) c.in-Ok.ensures.whole in
     let says : Says text c.in-Ok-parse.commands.items = says_all text c.deref.result.now c.in-Ok-parse.commands.items whole c.in-Ok-parse.ensures in
     play_cause c.run_commands.result (Rose (g.S.Scripts.faults c.args.scripts.now) (g.S.Scripts.faults c.read_script.new.scripts))
-    (Rose (g.D.Devices.faults c.args.devices.now) (g.D.Devices.faults c.run_commands.new.devices) ⊎ Rose (g.D.Devices.journal_faults c.args.devices.now) (g.D.Devices.journal_faults c.run_commands.new.devices))
-    (Rose (g.K.Sinks.faults c.args.sinks.now) (g.K.Sinks.faults c.run_commands.new.sinks)) (Rose 0 (g.K.Sinks.client_faults c.run_commands.new.sinks 1)) g.D.J.Journal.tells (g.D.Devices.seen c.args.devices.now)
+    (Rose (g.D.Devices.faults c.args.devices.now) (g.D.Devices.faults c.run_commands.new.devices) ⊎ Rose (g.D.Devices.journal_told c.args.devices.now).faults (g.D.Devices.journal_told c.run_commands.new.devices).faults)
+    (Rose (g.K.Sinks.faults c.args.sinks.now) (g.K.Sinks.faults c.run_commands.new.sinks)) (Rose 0 (g.K.Sinks.client_faults c.run_commands.new.sinks 1)) g.D.J.Journal.tells (g.D.Devices.journal_told c.args.devices.now).seen
     text (c.in-Ok.ensures.within, (c.in-Ok-parse.commands.items, says)) c.run_commands.ensures.cause

@@ -9,8 +9,8 @@ pub returns-clause-usage : goal.returns-clause-usage
 returns-clause-usage g c =
     let named : run_words (map string_bytes c.args.words.now) ≡ Some (c.in-Some.names.dir.now, c.in-Some.names.file.now) = sym c.in-Some.ensures in (
       λ usage. absurd (play_not_usage c.play-cause.result (Rose (g.S.Scripts.faults c.args.scripts.now) (g.S.Scripts.faults c.play-cause.new.scripts))
-          (Rose (g.D.Devices.faults c.args.devices) (g.D.Devices.faults c.play-cause.new.devices) ⊎ Rose (g.D.Devices.journal_faults c.args.devices) (g.D.Devices.journal_faults c.play-cause.new.devices))
-          (Rose (g.K.Sinks.faults c.args.sinks.now) (g.K.Sinks.faults c.play-cause.new.sinks)) (Rose 0 (g.K.Sinks.client_faults c.play-cause.new.sinks 1)) g.D.J.Journal.tells (g.D.Devices.seen c.args.devices)
+          (Rose (g.D.Devices.faults c.args.devices) (g.D.Devices.faults c.play-cause.new.devices) ⊎ Rose (g.D.Devices.journal_told c.args.devices).faults (g.D.Devices.journal_told c.play-cause.new.devices).faults)
+          (Rose (g.K.Sinks.faults c.args.sinks.now) (g.K.Sinks.faults c.play-cause.new.sinks)) (Rose 0 (g.K.Sinks.client_faults c.play-cause.new.sinks 1)) g.D.J.Journal.tells (g.D.Devices.journal_told c.args.devices).seen
           (g.S.Scripts.text c.args.scripts.now c.in-Some.names.file.now) c.play-cause.ensures.cause (sym c.new-2.ensures.cause ∙ usage)),
       λ none. absurd cc,
     )

@@ -1,7 +1,7 @@
 //! The journal over real files.
 
 ghost use Rattle.std.specs.Prelude.{◌≡◌, ◌≤◌, ℕ, None, false};
-ghost use Rattle.pebbles_cli.specs.Silent.{nothing_told};
+ghost use Rattle.disk_real.specs.Silent.{nothing_told};
 
 use crate::faults::Faults;
 use crate::journal_folder::JournalFolder;

@@ -1,8 +1,8 @@
 -- What is told of the sinks over files that were handed back.
 use Rattle.std.specs.Prelude.{ℕ, ◌==◌, Option, None, Some, if◌then◌else◌}
 use Rattle.disk_model.specs.SinkNames.{Label}
-use Rattle.pebbles_cli.specs.declared.returned.Returned.{Returned}
-use Rattle.pebbles_cli.specs.declared.returned.Returned.TheVariants.{Nothing, Sink'}
+use Rattle.disk_real.specs.declared.returned.Returned.{Returned}
+use Rattle.disk_real.specs.declared.returned.Returned.TheVariants.{Nothing, Sink'}
 
 -- how often the sink of a client had failed that was handed back last
 abbrev pub failed_by : Returned → ℕ → ℕ

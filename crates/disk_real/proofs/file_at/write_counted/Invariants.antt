@@ -1,5 +1,5 @@
 use Rattle.std.proofs.Common.{length, ◌-◌, ◌≤◌}
-use Rattle.pebbles_cli.proofs.file_at.write_counted.Given as goal
+use Rattle.disk_real.proofs.file_at.write_counted.Given as goal
 
 -- no more was written than there is
 abbrev pub invariant-loop-count : goal.invariant-loop-count

@@ -1,5 +1,5 @@
 use Rattle.std.proofs.Common.{length, ◌-◌, ◌≡◌, ◌≤◌}
-use Rattle.pebbles_cli.proofs.file_at.read_at.Given as goal
+use Rattle.disk_real.proofs.file_at.read_at.Given as goal
 
 -- the bytes read so far fit
 abbrev pub invariant-loop-count : goal.invariant-loop-count

@@ -1,6 +1,6 @@
 //! The maker over real files.
 
-ghost use Rattle.std.specs.Prelude.{◌≡◌, ◌≤◌, [], None, IsSome, IfOk, OnOk, length, option_map};
+ghost use Rattle.std.specs.Prelude.{◌≡◌, ◌≤◌, ◌<◌, ◌^◌, [], None, IsSome, IfOk, OnOk, length, option_map};
 ghost use Rattle.disk_model.specs.Tables.{none_gone};
 
 use crate::faults::Faults;
@@ -35,6 +35,7 @@ pub struct RealMaker<R: Files + AllocGlobal + Clone + Drop> {
     pub faults: Faults,
     /// The place in which what it took away is kept once it is handed back.
     pub place: Box<Makers>,
+    ghost fits: { taken < 2 ^ 64 },
 }
 
 /// Takes an earlier file away that wasn't sealed, and makes that of the table of this number.
@@ -91,7 +92,7 @@ fn seal_file<R: Files + AllocGlobal + Clone + Drop>(
 }
 
 impl<R: Files + AllocGlobal + Clone + Drop> RealMaker<R> {
-    ghost use Rattle.pebbles_cli.specs.Gone.{gone_of};
+    ghost use Rattle.disk_real.specs.Gone.{gone_of};
 
     /// A maker of tables in this directory that made nothing yet.
     pub fn new(folder: Folder<R>) -> Result<RealMaker<R>, AllocError>
@@ -113,7 +114,7 @@ impl<R: Files + AllocGlobal + Clone + Drop> RealMaker<R> {
 }
 
 impl<R: Files + AllocGlobal + Clone + Drop> Maker for RealMaker<R> {
-    ghost use Rattle.pebbles_cli.specs.Gone.{gone_of};
+    ghost use Rattle.disk_real.specs.Gone.{gone_of};
 
     type File = RealTable<R>;
 
@@ -128,6 +129,8 @@ impl<R: Files + AllocGlobal + Clone + Drop> Maker for RealMaker<R> {
     ghost taken = { λ maker. maker.taken };
 
     ghost faults = { λ maker. maker.faults.count };
+
+    ghost taken_fits = { λ maker. maker.fits };
 
     fn begin(&mut self, number: u64) -> Result<(), Failed> {
         let begun = begin_file(&self.folder, self.begun.take(), number);

@@ -1,6 +1,6 @@
 //! The port over real files.
 
-ghost use Rattle.std.specs.Prelude.{◌≡◌, None, false, IfOk, IfSome};
+ghost use Rattle.std.specs.Prelude.{◌≡◌, ◌<◌, ◌^◌, None, false, IfOk, IfSome};
 
 use crate::faults::Faults;
 use crate::folder::Folder;
@@ -21,6 +21,7 @@ pub struct RealPort<R: Files + AllocGlobal + Clone + Drop> {
     folder: Folder<R>,
     pub reads: u64,
     pub faults: Faults,
+    ghost fits: { reads < 2 ^ 64 },
 }
 
 /// The number that a name tells, if it begins as that of a table's file.
@@ -83,7 +84,7 @@ impl<R: Files + AllocGlobal + Clone + Drop> RealPort<R> {
 }
 
 impl<R: Files + AllocGlobal + Clone + Drop> Port for RealPort<R> {
-    ghost use Rattle.pebbles_cli.specs.Silent.{no_table_files};
+    ghost use Rattle.disk_real.specs.Silent.{no_table_files};
 
     type File = RealTable<R>;
 
@@ -94,6 +95,8 @@ impl<R: Files + AllocGlobal + Clone + Drop> Port for RealPort<R> {
     ghost faults = { λ port. port.faults.count };
 
     ghost steady = { λ _. ⊥ };
+
+    ghost reads_fit = { λ port. port.fits };
 
     fn find(&mut self, number: u64) -> Result<Option<RealTable<R>>, Failed> {
         let found = self.look_for(number);

@@ -1,7 +1,7 @@
 //! Replies and the report to real files and to the standard output.
 
 ghost use Rattle.std.specs.Prelude.{◌≡◌, None, IfOk};
-ghost use Rattle.pebbles_cli.specs.Returning.{failed_by, labelled_by};
+ghost use Rattle.disk_real.specs.Returning.{failed_by, labelled_by};
 
 use crate::faults::Faults;
 use crate::real_sink::RealSink;

@@ -1,8 +1,8 @@
 -- What the makers over files took away.
 use Rattle.disk_model.specs.Tables.{Gone, none_gone, joined}
-use Rattle.pebbles_cli.specs.declared.taken_away.TakenAway.{TakenAway}
-use Rattle.pebbles_cli.specs.declared.makers.Makers.{Makers}
-use Rattle.pebbles_cli.specs.declared.makers.Makers.TheVariants.{Nothing, Maker'}
+use Rattle.disk_real.specs.declared.taken_away.TakenAway.{TakenAway}
+use Rattle.disk_real.specs.declared.makers.Makers.{Makers}
+use Rattle.disk_real.specs.declared.makers.Makers.TheVariants.{Nothing, Maker'}
 
 -- the numbers that one maker took away
 abbrev pub gone_of : TakenAway → Gone

@@ -2,7 +2,7 @@
 
 ghost use Rattle.std.specs.Prelude.{◌≡◌, ◌≤◌, ℕ, None, Some, true, false, IfOk, string_bytes};
 ghost use Rattle.disk_model.specs.Directories.{no_directories};
-ghost use Rattle.pebbles_cli.specs.Silent.{nothing_told, no_table_files};
+ghost use Rattle.disk_real.specs.Silent.{nothing_told, no_table_files, silent_journal};
 
 use crate::faults::Faults;
 use crate::folder::Folder;
@@ -32,7 +32,7 @@ pub struct RealDevices<R: Files + AllocGlobal + Clone + Drop> {
 }
 
 impl<R: Files + AllocGlobal + Clone + Drop> RealDevices<R> {
-    ghost use Rattle.pebbles_cli.specs.Gone.{gone_of, gone_by};
+    ghost use Rattle.disk_real.specs.Gone.{gone_of, gone_by};
     ghost use Rattle.disk_model.specs.Tables.{none_gone};
 
     /// Devices whose directory isn't chosen yet. They keep the runtime.
@@ -97,7 +97,7 @@ impl<R: Files + AllocGlobal + Clone + Drop> RealDevices<R> {
 }
 
 impl<R: Files<File: Send> + AllocGlobal + Clone + Drop + Send + Sync> Devices for RealDevices<R> {
-    ghost use Rattle.pebbles_cli.specs.Gone.{gone_by};
+    ghost use Rattle.disk_real.specs.Gone.{gone_by};
 
     type J = RealJournal<R>;
 
@@ -107,29 +107,17 @@ impl<R: Files<File: Send> + AllocGlobal + Clone + Drop + Send + Sync> Devices fo
 
     type M = RealMaker<R>;
 
-    ghost seen = { λ _ _. None };
+    ghost journal_told = { λ devices. silent_journal devices.journal_faults.count };
 
-    ghost may_leave = { λ _ _. ⊥ };
-
-    ghost moment = { λ _. 0 };
-
-    ghost left_since = { λ _ _ _. ⊥ };
-
-    ghost journal_faults = { λ devices. devices.journal_faults.count };
-
-    ghost steady = { λ _. ⊥ };
+    ghost tables_told = { λ devices. record {
+      files = no_table_files;
+      kept = λ _. None;
+      tally = record { reads = devices.reads; taken = devices.taken; gone = gone_by devices.makers };
+      faults = devices.table_faults.count;
+      steady = ⊥;
+    } };
 
     ghost faults = { λ devices. devices.faults.count };
-
-    ghost table_files = { λ _. no_table_files };
-
-    ghost kept = { λ _ _. None };
-
-    ghost tally = { λ devices. record { reads = devices.reads; taken = devices.taken; gone = gone_by devices.makers } };
-
-    ghost table_faults = { λ devices. devices.table_faults.count };
-
-    ghost ports_steady = { λ _. ⊥ };
 
     ghost directories = { λ devices. devices.directories };
 
