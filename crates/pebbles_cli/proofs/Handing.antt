@@ -1,23 +1,25 @@
 -- What an opening hands on of what the devices told.
-use Rattle.std.proofs.Common.{◌≡◌, ◌≢◌, ℕ, ◌≤◌, Bool, true, false, List, inl, inr, refl, sym, ap, ◌∙◌, subst, arith}
-use Rattle.peb_base.specs.Batches.{Batches}
+use Rattle.std.proofs.Common.{◌≡◌, ◌≢◌, ℕ, suc, ◌*◌, ◌^◌, ◌<◌, ◌≤◌, Bool, true, false, List, Option, ◌++◌, inl, inr, refl, sym, ap, ◌∙◌, subst, arith}
+use Rattle.peb_base.specs.Batches.{Batches, last_number}
 use Rattle.peb_base.specs.declared.profile.Profile.{Profile}
 use Rattle.peb_base.specs.Faults.{Rose}
-use Rattle.disk_model.specs.Images.{Image, Elapses}
-use Rattle.disk_model.specs.Moments.{elapses_none}
+use Rattle.disk_model.specs.Images.{Image}
+use Rattle.disk_model.specs.SinkNames.{Label, SinkNames, after_client, after_return}
 use Rattle.disk_model.specs.Told.{JournalTold, TablesTold, TellsTheSame, TablesStay}
 use Rattle.flsm_core.specs.declared.state.State.{State}
 use Rattle.flsm_core.specs.declared.open_fault.OpenFault.{OpenFault}
 use Rattle.flsm_core.specs.declared.open_fault.OpenFault.TheVariants as opens
 use Rattle.disk_model.specs.declared.journal.Journal.{Ghosts}
 use Rattle.flsm_core.specs.Place.{Start, Place, opened, start_at, all_of}
-use Rattle.flsm_core.specs.Logs.{ReadsAs, Stands}
+use Rattle.flsm_core.specs.Logs.{Held, HoldsLogs, ReadsAs, Stands, greatest_session}
 use Rattle.flsm_core.specs.Standing.{IsAt, IsLeftBy}
 use Rattle.flsm_core.specs.Opening.{OpensOn, OpenCause, HasWatched}
 use Rattle.script.specs.declared.cause.Cause.{Cause}
 use Rattle.script.specs.declared.cause.Cause.TheVariants as causes
 use Rattle.pebbles_cli.specs.Causes.{IsScript, OpeningCause, IsOpeningCause, RefusalCause, opening_cause}
-use Rattle.pebbles_cli.specs.Outside.{DevicesTold}
+use Rattle.pebbles_cli.specs.Names.{replies_label}
+use Rattle.pebbles_cli.specs.Outside.{DevicesTold, Outside}
+use Rattle.pebbles_cli.specs.Top.{Asked, IsNext, NotOpened}
 
 pub same_then : {a b c : JournalTold} → TellsTheSame a b → TellsTheSame b c → TellsTheSame a c
 same_then x y = record {
@@ -40,6 +42,16 @@ tables_then x y = record {
 
 pub tables_stay : (a : TablesTold) → TablesStay a a
 tables_stay a = record { there = refl; left = refl; done = refl; count = refl; still_steady = λ steady. steady }
+
+pub tells_itself : (a : JournalTold) → TellsTheSame a a
+tells_itself a = record {
+  bytes = refl;
+  images = λ image. (λ left. left, λ left. left);
+  time = refl;
+  past = λ t image. (λ left. left, λ left. left);
+  count = refl;
+  still_steady = λ steady. steady;
+}
 
 -- what opens on what is told opens on the same told otherwise
 pub opens_same : (a b : JournalTold) (honest : Bool) (profile : Profile) (base : Batches) → TellsTheSame a b → OpensOn profile honest base a.seen a.may_leave → OpensOn profile honest base b.seen b.may_leave
@@ -109,13 +121,33 @@ open_weaker opens.Memory P Q tells seen seen' profile same up cause = tt
 pub opening_journal : (fault : OpenFault) → opening_cause fault ≢ causes.Journal → fault ≢ opens.Journal
 opening_journal fault other is = other (ap opening_cause is)
 
--- why no command is run, by why no store is opened
-pub refusal_of : (text : Option (List ℕ)) (old new : DevicesTold) (cause : Cause) → IsScript text → IsOpeningCause old new cause → RefusalCause text old new cause
-refusal_of text old new cause script is = subst (RefusalCause text old new) (sym is.tells) (by is.fault is.when)
-  where
-    by : (fault : OpenFault) → OpeningCause old new fault → RefusalCause text old new (opening_cause fault)
-    by opens.Journal when = (script, when)
-    by (opens.Damaged file at) when = (script, when)
-    by (opens.Profile have asked) when = (script, when)
-    by (opens.Limit kind n) when = inr (script, when)
-    by opens.Memory when = tt
+-- ---- what is opened
+
+-- what an opening rests on is read
+pub opens_read : (honest : Bool) (profile : Profile) (base : Batches) (told : JournalTold) → told.may_leave told.seen → OpensOn profile honest base told.seen told.may_leave → ReadsAs profile base told.seen
+opens_read true profile base told left on = let stands = on told.seen left in (stands.logs, stands.reads)
+opens_read false profile base told left on = on
+
+-- the next session, by what the opening told of it
+pub next_of : (base : Batches) (seen seen' : Image) (session : ℕ) → seen' ≡ seen → ((logs : List Held) × HoldsLogs 1 logs seen' × (session ≡ suc (greatest_session logs))) → last_number base < session * 2 ^ 40 → IsNext base seen session
+next_of base seen seen' session same found above = record { logs = found.0; holds = subst (HoldsLogs 1 found.0) same found.1; after = found.2; above = above }
+
+-- nothing was opened, and nothing was done
+pub nothing_opened : (asked : Asked) (old : Outside) (cause : Cause)
+    → ((t : ℕ) (image : Image) → t ≤ old.devices.journal.moment → old.devices.journal.may_leave image → old.devices.journal.left_since t image)
+    → ((image : Image) → old.devices.journal.left_since old.devices.journal.moment image → old.devices.journal.may_leave image)
+    → RefusalCause asked.text old.devices old.devices cause → NotOpened asked old old cause
+nothing_opened asked old cause counts only why = record {
+  why = why;
+  directory = inl refl;
+  sinks = refl;
+  untouched = λ other. watched_same old.devices.journal old.devices.journal counts only (tells_itself old.devices.journal);
+  ever = λ told base on image left. on image (only image left);
+  tables = tables_stay old.devices.tables;
+}
+
+-- the names of the sinks, once that of the replies was handed back
+pub replies_named : (name : List ℕ) (label label' : Label) (names names1 names2 : SinkNames) → label' ≡ label → label ≡ record { client = 1; name = name }
+    → names1 ≡ after_client names → names2 ≡ after_return 1 label' names1 → names2 ≡ after_return 1 (replies_label name) (after_client names)
+replies_named name label label' names names1 names2 kept labelled opened returned =
+    returned ∙ ap (after_return 1 label') opened ∙ ap (λ (l : Label). after_return 1 l (after_client names)) (kept ∙ labelled)

@@ -1,5 +1,5 @@
 -- A run from its opening to its report.
-use Rattle.std.proofs.Common.{◌≡◌, ◌≢◌, ◌⊎◌, ℕ, Bool, true, false, IsTrue, List, [], ◌∷◌, ◌++◌, take, Option, Some, None, Result, Ok, Err, refl, sym, ap, ◌∙◌, subst, inl, inr, arith}
+use Rattle.std.proofs.Common.{◌≡◌, ◌≢◌, ◌⊎◌, ℕ, ◌≤◌, Bool, true, false, IsTrue, List, [], ◌∷◌, ◌++◌, take, Option, Some, None, Result, Ok, Err, refl, sym, ap, ◌∙◌, subst, inl, inr, arith}
 use Rattle.std.specs.Result.{is_err}
 use Rattle.std.specs.Option.{option_or, unwrap_or}
 use Rattle.std.proofs.lemmas.Bool.{true≢false}
@@ -13,12 +13,19 @@ use Rattle.script.specs.declared.cause.Cause.TheVariants as causes
 use Rattle.script.specs.Report.{report_text}
 use Rattle.flsm_core.specs.declared.sync_fault.SyncFault.{SyncFault}
 use Rattle.flsm_core.specs.declared.sync_fault.SyncFault.TheVariants as syncs
-use Rattle.flsm_core.specs.Place.{Start, Place, all_of, after_sync, Syncs}
+use Rattle.flsm_core.specs.Place.{Start, Place, all_of, opened, after_sync, Syncs}
 use Rattle.pebbles_cli.specs.declared.served.Served.{Served}
-use Rattle.pebbles_cli.specs.Causes.{IsScript, JournalRose, LineCause, ReportCause, SinkCause, PlayCause, RefusalCause, sink_cause, end_of}
+use Rattle.peb_base.specs.declared.limit_kind.LimitKind.TheVariants as kinds
+use Rattle.disk_model.specs.Directories.{after_choice, after_opening}
+use Rattle.script.specs.declared.command.Command.{Command}
+use Rattle.flsm_core.specs.declared.open_fault.OpenFault.{OpenFault}
+use Rattle.flsm_core.specs.declared.open_fault.OpenFault.TheVariants as opens
+use Rattle.pebbles_cli.specs.Read.{IsWithin}
+use Rattle.pebbles_cli.specs.Names.{replies_name}
+use Rattle.pebbles_cli.specs.Causes.{Says, IsBeforeOpening, IsOpeningCause, OpeningCause, opening_cause, IsScript, JournalRose, LineCause, ReportCause, SinkCause, PlayCause, ScriptCause, RefusalCause, sink_cause, end_of}
 use Rattle.pebbles_cli.specs.Outside.{DevicesTold, SinksTold, Outside}
 use Rattle.pebbles_cli.specs.Tells.{TookMore, sync_cause}
-use Rattle.pebbles_cli.specs.Top.{Asked, Run, Went, IsTaken, IsAnswered, IsUnheard, IsServed, Closed, IsClosed, IsDone, Ran, NotOpened, Plays, Reports, run_report}
+use Rattle.pebbles_cli.specs.Top.{Asked, Run, Went, IsTaken, IsAnswered, IsUnheard, IsServed, Closed, IsClosed, IsDone, IsNext, Ran, NotOpened, Plays, PlaysSomehow, Reports, run_report}
 use Rattle.pebbles_cli.proofs.Serving.{took_none, took_more, took_front, rose_later}
 use Rattle.pebbles_cli.proofs.Growing.{run_goes_on, run_start, sync_start}
 use Rattle.pebbles_cli.proofs.Numbering.{run_told, weaker}
@@ -110,22 +117,32 @@ ran_cause start asked old new cause counted ran =
     (weaker (sync_cause ran.closed.answer) ((after_sync ran.went.place ran.closed.answer).stopped ≡ true) (JournalRose old.devices new.devices) synced (sync_told ran.went.place ran.closed.answer))
     closing.report_cause)
 
-refused_cause : (text : Option (List ℕ)) (old new : Outside) (cause : Cause) → RefusalCause text old.devices new.devices cause → PlayCause text old new cause
-refused_cause text old new (causes.Source i) why = why
-refused_cause text old new (causes.Script i line why) is = is
-refused_cause text old new (causes.Limit kind n) (inl script) = inl script
-refused_cause text old new (causes.Limit kind n) (inr opening) = inr (opening.0, inr opening.1)
-refused_cause text old new causes.Journal why = why
-refused_cause text old new (causes.Damaged file at) why = why
-refused_cause text old new (causes.Profile have asked) why = why
-refused_cause text old new causes.Memory why = tt
-refused_cause text old new causes.Done why = absurd why
-refused_cause text old new causes.Usage why = absurd why
-refused_cause text old new (causes.Sink i) why = absurd why
+script_cause : (text : Option (List ℕ)) (old new : Outside) (cause : Cause) → ScriptCause text cause → PlayCause text old new cause
+script_cause text old new (causes.Source i) why = why
+script_cause text old new (causes.Script i line why) is = is
+script_cause text old new (causes.Limit kind n) why = inl why
+script_cause text old new causes.Memory why = tt
+script_cause text old new causes.Journal why = absurd why
+script_cause text old new (causes.Damaged file at) why = absurd why
+script_cause text old new (causes.Profile have asked) why = absurd why
+script_cause text old new causes.Done why = absurd why
+script_cause text old new causes.Usage why = absurd why
+script_cause text old new (causes.Sink i) why = absurd why
 
-pub plays_cause : (start : Start) (asked : Asked) (old new : Outside) (cause : Cause) → start.faults ≡ old.devices.journal.faults → Plays start asked old new cause → PlayCause asked.text old new cause
-plays_cause start asked old new cause counted (inl not) = refused_cause asked.text old new cause not.why
-plays_cause start asked old new cause counted (inr ran) = ran_cause start asked old new cause counted ran
+refused_cause : (text : Option (List ℕ)) (old new : Outside) (cause : Cause) → RefusalCause text old.devices new.devices cause → PlayCause text old new cause
+refused_cause text old new cause (inl why) = script_cause text old new cause why
+refused_cause text old new cause (inr (script, is)) = subst (PlayCause text old new) (sym is.tells) (by is.fault is.when)
+  where
+    by : (fault : OpenFault) → OpeningCause old.devices new.devices fault → PlayCause text old new (opening_cause fault)
+    by opens.Journal when = (script, when)
+    by (opens.Damaged file at) when = (script, when)
+    by (opens.Profile have asked) when = (script, when)
+    by (opens.Limit kind n) when = inr (script, inr when)
+    by opens.Memory when = tt
+
+pub somehow_cause : (asked : Asked) (old new : Outside) (cause : Cause) → PlaysSomehow asked old new cause → PlayCause asked.text old new cause
+somehow_cause asked old new cause (inl not) = refused_cause asked.text old new cause not.why
+somehow_cause asked old new cause (inr ran) = ran_cause _ asked old new cause refl ran.1.1
 
 -- ---- status 0
 
@@ -192,3 +209,140 @@ taken_all (Some f) (Some s) (Some t) text unused more same =
     let one : t ≡ s = cc in
     let two : s ≡ f ++ text = cc in
     one ∙ two ∙ ap (λ (x : List ℕ). x ++ text) unused
+
+-- ---- the whole run
+
+-- later calls left what the sinks of clients told
+pub record ClientsKept (old new : SinksTold) : Type 0 where
+  pub names : new.names ≡ old.names
+  pub replies : new.replies ≡ old.replies
+  pub faults : new.reply_faults ≡ old.reply_faults
+  pub never_falls : old.faults ≤ new.faults
+
+rose_still : (a b c : ℕ) → b ≤ c → Rose a b → Rose a c
+rose_still a b c bc rose = omega arith
+
+served_later : (run : Run) (old mid new : SinksTold) (went : Went) → ClientsKept mid new → IsServed run old mid went → IsServed run old new went
+served_later run old mid new went kept (inl answered) = inl (record {
+  told = answered.told;
+  shown = answered.shown;
+  numbered = answered.numbered;
+  taken = subst (λ (t : Option (List ℕ)). IsTaken t went.text) (sym kept.replies) answered.taken;
+  failed = λ failed. subst (λ (n : ℕ). Rose 0 n) (sym kept.faults) (answered.failed failed);
+  names = kept.names ∙ answered.names;
+})
+served_later run old mid new went kept (inr unheard) = inr (record {
+  cause = rose_still old.faults mid.faults new.faults kept.never_falls unheard.cause;
+  no_reply = kept.replies ∙ unheard.no_reply;
+  no_text = unheard.no_text;
+  served = unheard.served;
+  place = unheard.place;
+  names = kept.names ∙ unheard.names;
+})
+
+report_weaker : (cause : Option Cause) (P Q : Type 0) → (P → Q) → ReportCause P cause → ReportCause Q cause
+report_weaker None P Q f h = tt
+report_weaker (Some causes.Memory) P Q f h = tt
+report_weaker (Some (causes.Sink i)) P Q f h = (h.0, f h.1)
+report_weaker (Some causes.Journal) P Q f h = absurd h
+report_weaker (Some (causes.Limit kind n)) P Q f h = absurd h
+report_weaker (Some causes.Done) P Q f h = absurd h
+report_weaker (Some causes.Usage) P Q f h = absurd h
+report_weaker (Some (causes.Script i line why)) P Q f h = absurd h
+report_weaker (Some (causes.Damaged file at)) P Q f h = absurd h
+report_weaker (Some (causes.Profile have asked)) P Q f h = absurd h
+report_weaker (Some (causes.Source i)) P Q f h = absurd h
+
+-- a closing, told from an earlier time on
+closed_since : (p : Place) (old mid new : Outside) (closed : Closed) → mid.sinks.report ≡ old.sinks.report → old.sinks.faults ≤ mid.sinks.faults → IsClosed p mid new closed → IsClosed p old new closed
+closed_since p old mid new closed same later is = record {
+  closes = is.closes;
+  leads = is.leads;
+  halted = is.halted;
+  reports = subst (λ (r : Option (List ℕ)). Reports (last_number (all_of closed.place)) closed.report r new.sinks.report) same is.reports;
+  report_cause = report_weaker closed.report (Rose mid.sinks.faults new.sinks.faults) (Rose old.sinks.faults new.sinks.faults)
+      (rose_later old.sinks.faults mid.sinks.faults new.sinks.faults later) is.report_cause;
+  left = is.left;
+}
+
+pub ran_of : (start : Start) (asked : Asked) (old mid new : Outside) (cause : Cause) (session : ℕ) (commands : List Command) (name : List ℕ) (went : Went) (closed : Closed)
+    → IsWithin asked.text 16777216 → Says asked.text commands → (IsTrue old.devices.tells → IsNext start.base old.devices.journal.seen session)
+    → new.devices.directories ≡ after_opening (after_choice asked.dir old.devices.directories) → name ≡ replies_name asked.file
+    → IsServed (record { session = session; start = opened start; name = name; commands = commands }) old.sinks mid.sinks went
+    → IsClosed went.place mid new closed → ClientsKept mid.sinks new.sinks → mid.sinks.report ≡ old.sinks.report → old.sinks.faults ≤ mid.sinks.faults
+    → cause ≡ end_of went.served.fault went.served.sink_failed (sync_cause closed.answer) closed.report → TablesStay old.devices.tables new.devices.tables
+    → Ran start asked old new cause
+ran_of start asked old mid new cause session commands name went closed short says next directory named served closing kept same later ends tables =
+    let run : Run = record { session = session; start = opened start; name = replies_name asked.file; commands = commands } in
+    let all : IsServed run old.sinks new.sinks went =
+    subst (λ (n : List ℕ). IsServed (record { session = session; start = opened start; name = n; commands = commands }) old.sinks new.sinks went) named
+    (served_later (record { session = session; start = opened start; name = name; commands = commands }) old.sinks mid.sinks new.sinks went kept served) in
+    let closes = closed_since went.place old mid new closed same later closing in
+    record {
+      session = session;
+      commands = commands;
+      went = went;
+      closed = closed;
+      short = short;
+      says = says;
+      next = next;
+      directory = directory;
+      served = all;
+      starts = starts_of run old new went closed all closes;
+      closing = closes;
+      ends = ends;
+      done = λ done. is_done run old new went closed all refl closes (sym ends ∙ done);
+      tables = tables;
+    }
+
+-- ---- a cause that is told after an opening
+
+line_after : (cause : Cause) (P : Type 0) → LineCause P (Some cause) → IsBeforeOpening cause → ⊥
+line_after causes.Journal P line before = before
+line_after causes.Memory P line before = before
+line_after (causes.Limit kind n) P (inl operations) before = let e : kinds.Operations ≡ kinds.Script = sym operations.0 ∙ before in absurd cc
+line_after (causes.Limit kind n) P (inr tail) before = let e : kinds.Tail ≡ kinds.Script = sym tail.0 ∙ before in absurd cc
+line_after causes.Done P line before = line
+line_after causes.Usage P line before = line
+line_after (causes.Script i at why) P line before = line
+line_after (causes.Damaged file at) P line before = line
+line_after (causes.Profile have asked) P line before = line
+line_after (causes.Sink i) P line before = line
+line_after (causes.Source i) P line before = line
+
+report_after : (cause : Cause) (P : Type 0) → ReportCause P (Some cause) → IsBeforeOpening cause → ⊥
+report_after causes.Memory P report before = before
+report_after (causes.Sink i) P report before = before
+report_after causes.Journal P report before = report
+report_after (causes.Limit kind n) P report before = report
+report_after causes.Done P report before = report
+report_after causes.Usage P report before = report
+report_after (causes.Script i at why) P report before = report
+report_after (causes.Damaged file at) P report before = report
+report_after (causes.Profile have asked) P report before = report
+report_after (causes.Source i) P report before = report
+
+end_after : (fault : Option Cause) (failed : Bool) (closing report : Option Cause) (P Q R : Type 0) → LineCause P fault → LineCause Q closing → ReportCause R report → IsBeforeOpening (end_of fault failed closing report) → ⊥
+end_after (Some cause) failed closing report P Q R line close last before = line_after cause P line before
+end_after None true closing report P Q R line close last before = before
+end_after None false (Some cause) report P Q R line close last before = line_after cause Q close before
+end_after None false None (Some cause) P Q R line close last before = report_after cause R last before
+end_after None false None None P Q R line close last before = before
+
+-- a run ends with no cause that is told before an opening
+pub ran_after : (run : Run) (old mid new : Outside) (went : Went) (closed : Closed) (cause : Cause) → IsServed run old.sinks mid.sinks went → IsClosed went.place mid new closed
+    → cause ≡ end_of went.served.fault went.served.sink_failed (sync_cause closed.answer) closed.report → IsBeforeOpening cause → ⊥
+ran_after run old mid new went closed cause served closing ends before =
+    end_after went.served.fault went.served.sink_failed (sync_cause closed.answer) closed.report _ _ _
+    (served_told run old.sinks mid.sinks went served) (sync_told went.place closed.answer) closing.report_cause (subst IsBeforeOpening ends before)
+
+-- nor does an opening that is refused
+pub opening_after : (old new : DevicesTold) (cause : Cause) → IsOpeningCause old new cause → IsBeforeOpening cause → ⊥
+opening_after old new cause is before = by is.fault is.when (subst IsBeforeOpening is.tells before)
+  where
+    by : (fault : OpenFault) → OpeningCause old new fault → IsBeforeOpening (opening_cause fault) → ⊥
+    by opens.Journal when before = before
+    by (opens.Damaged file at) when before = before
+    by (opens.Profile have asked) when before = before
+    by (opens.Limit kind n) when before = let e : kinds.Openings ≡ kinds.Script = sym when.0 ∙ before in absurd cc
+    by opens.Memory when before = before

@@ -32,6 +32,20 @@ IsRefusedAt (Some text) line why = script_of text ≡ Err (line, why)
 abbrev pub IsScript : Option (List ℕ) → Type 0
 IsScript text = IsWithin text 16777216 × ((commands : List Command) × Says text commands)
 
+-- the script isn't read, or isn't one, for this cause
+abbrev pub ScriptCause : Option (List ℕ) → Cause → Type 0
+ScriptCause text (causes.Source i) = i ≡ 1
+ScriptCause text (causes.Script i line why) =
+    (i ≡ 1) × IsWithin text 16777216 × IsRefusedAt text line why
+ScriptCause text (causes.Limit kind n) = (kind ≡ kinds.Script) × (n ≡ 16777216) × HasMore text 16777216
+ScriptCause text causes.Memory = Unit {0}
+ScriptCause text causes.Journal = ⊥
+ScriptCause text (causes.Damaged file at) = ⊥
+ScriptCause text (causes.Profile have asked) = ⊥
+ScriptCause text causes.Done = ⊥
+ScriptCause text causes.Usage = ⊥
+ScriptCause text (causes.Sink i) = ⊥
+
 -- ---- the opening
 
 -- the journal failed, or the choice of its directory, or its handing out
@@ -56,25 +70,9 @@ pub record IsOpeningCause (old new : DevicesTold) (cause : Cause) : Type 0 where
   pub tells : cause ≡ opening_cause fault
   pub when : OpeningCause old new fault
 
--- ---- where no command is run
-
--- the script isn't read, or isn't one, or no store is opened, for this cause
+-- no command is run for this cause: the script gives none, or no store is opened
 abbrev pub RefusalCause : Option (List ℕ) → DevicesTold → DevicesTold → Cause → Type 0
-RefusalCause text old new (causes.Source i) = i ≡ 1
-RefusalCause text old new (causes.Script i line why) =
-    (i ≡ 1) × IsWithin text 16777216 × IsRefusedAt text line why
-RefusalCause text old new (causes.Limit kind n) =
-    ((kind ≡ kinds.Script) × (n ≡ 16777216) × HasMore text 16777216)
-    ⊎ (IsScript text × OpeningCause old new (opens.Limit kind n))
-RefusalCause text old new causes.Journal = IsScript text × JournalRose old new
-RefusalCause text old new (causes.Damaged file at) =
-    IsScript text × OpeningCause old new (opens.Damaged file at)
-RefusalCause text old new (causes.Profile have asked) =
-    IsScript text × OpeningCause old new (opens.Profile have asked)
-RefusalCause text old new causes.Memory = Unit {0}
-RefusalCause text old new causes.Done = ⊥
-RefusalCause text old new causes.Usage = ⊥
-RefusalCause text old new (causes.Sink i) = ⊥
+RefusalCause text old new cause = ScriptCause text cause ⊎ (IsScript text × IsOpeningCause old new cause)
 
 -- the cause is told before anything is opened
 abbrev pub IsBeforeOpening : Cause → Type 0

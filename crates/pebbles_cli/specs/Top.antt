@@ -12,8 +12,8 @@ use Rattle.disk_model.specs.Images.{Image}
 use Rattle.disk_model.specs.SinkNames.{after_client, after_return}
 use Rattle.disk_model.specs.Told.{TablesStay}
 use Rattle.flsm_core.specs.declared.sync_fault.SyncFault.{SyncFault}
-use Rattle.flsm_core.specs.Place.{Start, Place, all_of, opened, after_sync, Syncs}
-use Rattle.flsm_core.specs.Logs.{Held, HoldsLogs, Stands, greatest_session}
+use Rattle.flsm_core.specs.Place.{Start, Place, all_of, opened, start_at, after_sync, Syncs}
+use Rattle.flsm_core.specs.Logs.{Held, HoldsLogs, ReadsAs, Stands, greatest_session}
 use Rattle.flsm_core.specs.Opening.{OpensOn, HasWatched}
 use Rattle.flsm_core.specs.Standing.{IsLeftBy}
 use Rattle.pebbles_cli.specs.declared.served.Served.{Served}
@@ -161,3 +161,11 @@ pub record NotOpened (asked : Asked) (old new : Outside) (cause : Cause) : Type 
 -- the script was run over a store that was opened so, or no store was opened
 abbrev pub Plays : Start → Asked → Outside → Outside → Cause → Type 0
 Plays start asked old new cause = NotOpened asked old new cause ⊎ Ran start asked old new cause
+
+-- the script was run over a store that was opened over some base, which was read where reads are told, or no store was
+-- opened
+abbrev pub PlaysSomehow : Asked → Outside → Outside → Cause → Type 0
+PlaysSomehow asked old new cause =
+    NotOpened asked old new cause
+    ⊎ ((base : Batches) × ((IsTrue old.devices.tells → ReadsAs Small base old.devices.journal.seen)
+    × Ran (start_at old.devices.journal Small false base) asked old new cause))

@@ -5,6 +5,7 @@ mod closing;
 mod ended;
 mod laws;
 mod opening;
+mod read_commands;
 mod read_fault;
 mod read_script;
 mod run;

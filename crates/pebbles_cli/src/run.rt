@@ -1,18 +1,17 @@
-ghost use Rattle.std.specs.Prelude.{◌≡◌, ◌⊎◌, ◌≤◌, ℕ, List, Bool, true, false, IsTrue, IfOk, Option, string_bytes};
+ghost use Rattle.std.specs.Prelude.{◌≡◌, ◌≤◌, ℕ, List, Bool, true, false, IsTrue, IfOk, Option, string_bytes};
 ghost use Rattle.peb_base.specs.declared.profile.Profile.TheVariants.{Small};
 ghost use Rattle.peb_base.specs.Batches.{Batches};
 ghost use Rattle.disk_model.specs.Replies.{ClientsStay};
 ghost use Rattle.disk_model.specs.Told.{TablesStay};
-ghost use Rattle.flsm_core.specs.Logs.{ReadsAs};
 ghost use Rattle.flsm_core.specs.Opening.{OpensOn};
 ghost use Rattle.flsm_core.specs.Place.{Place, start_at};
 ghost use Rattle.flsm_core.specs.Standing.{IsAt};
-ghost use Rattle.pebbles_cli.specs.Causes.{IsScript, Says, end_of};
+ghost use Rattle.pebbles_cli.specs.Causes.{IsBeforeOpening, Says, end_of};
 ghost use Rattle.pebbles_cli.specs.Names.{replies_name};
 ghost use Rattle.pebbles_cli.specs.Outside.{outside};
 ghost use Rattle.pebbles_cli.specs.Read.{IsWithin};
 ghost use Rattle.pebbles_cli.specs.Tells.{sync_cause};
-ghost use Rattle.pebbles_cli.specs.Top.{Asked, Closed, IsClosed, Plays};
+ghost use Rattle.pebbles_cli.specs.Top.{Asked, Closed, IsClosed, Plays, PlaysSomehow};
 
 use crate::closing::{settle, write_report};
 use crate::opening::{close_store, open_store};
@@ -91,15 +90,12 @@ pub fn run_commands<D: Devices, K: Sinks>(
         → Plays (start_at (D.journal_told devices.old) Small honest base)
             (record { dir = dir.now; file = file.now; text = text })
             (outside D.J.Journal D.Devices K.Sinks devices.old sinks.old)
-            (outside D.J.Journal D.Devices K.Sinks devices.new sinks.new)
-            result }
-    ensures somehow { (text : Option (List ℕ)) → IsWithin text 16777216 → Says text commands.items → (base : Batches)
-        × ((IsTrue D.J.tells → ReadsAs Small base (D.journal_told devices.old).seen)
-        × Plays (start_at (D.journal_told devices.old) Small false base)
-            (record { dir = dir.now; file = file.now; text = text })
+            (outside D.J.Journal D.Devices K.Sinks devices.new sinks.new) result }
+    ensures somehow { (text : Option (List ℕ)) → IsWithin text 16777216 → Says text commands.items
+        → PlaysSomehow (record { dir = dir.now; file = file.now; text = text })
             (outside D.J.Journal D.Devices K.Sinks devices.old sinks.old)
-            (outside D.J.Journal D.Devices K.Sinks devices.new sinks.new)
-            result) }
+            (outside D.J.Journal D.Devices K.Sinks devices.new sinks.new) result }
+    ensures after_opening { IsBeforeOpening result → ⊥ }
 {
     let Ok(name) = reply_name(alloc, file) else {
         return Cause::Memory;

@@ -1,8 +1,7 @@
-ghost use Rattle.std.specs.Prelude.{◌≡◌, ◌⊎◌, ◌↔◌, ℕ, Bool, true, false, IsTrue, List, map, None, IfSome, string_bytes};
+ghost use Rattle.std.specs.Prelude.{◌≡◌, ◌↔◌, ℕ, Bool, true, false, IsTrue, List, map, None, IfSome, string_bytes};
 ghost use Rattle.peb_base.specs.declared.profile.Profile.TheVariants.{Small};
 ghost use Rattle.peb_base.specs.Batches.{Batches};
 ghost use Rattle.peb_base.specs.Faults.{Rose};
-ghost use Rattle.flsm_core.specs.Logs.{ReadsAs};
 ghost use Rattle.flsm_core.specs.Opening.{OpensOn};
 ghost use Rattle.flsm_core.specs.Place.{start_at};
 ghost use Rattle.script.specs.Cause.{status_of};
@@ -10,16 +9,14 @@ ghost use Rattle.script.specs.declared.cause.Cause.TheVariants as causes;
 ghost use Rattle.pebbles_cli.specs.Words.{run_words};
 ghost use Rattle.pebbles_cli.specs.Causes.{PlayCause, IsBeforeOpening};
 ghost use Rattle.pebbles_cli.specs.Outside.{outside};
-ghost use Rattle.pebbles_cli.specs.Top.{Asked, Plays};
+ghost use Rattle.pebbles_cli.specs.Top.{Asked, Plays, PlaysSomehow};
 
 use crate::ended::Ended;
-use crate::read_fault::ReadFault;
-use crate::read_script::read_script;
+use crate::read_commands::read_commands;
 use crate::run::run_commands;
 use crate::words::run_words;
 use disk_model::{Devices, Scripts, Sinks};
-use peb_base::LimitKind;
-use script::{Cause, ParseFault, parse};
+use script::Cause;
 use std::alloc::Global;
 
 /// Reads a script, and runs its commands on the store of a directory.
@@ -38,27 +35,19 @@ fn play<D: Devices, S: Scripts, K: Sinks>(
             (record { dir = dir.now; file = file.now; text = S.text scripts.old file.now })
             (outside D.J.Journal D.Devices K.Sinks devices.old sinks.old)
             (outside D.J.Journal D.Devices K.Sinks devices.new sinks.new) result }
-    ensures somehow { (base : Batches) × ((IsTrue D.J.tells → ReadsAs Small base (D.journal_told devices.old).seen)
-        × Plays (start_at (D.journal_told devices.old) Small false base)
-            (record { dir = dir.now; file = file.now; text = S.text scripts.old file.now })
-            (outside D.J.Journal D.Devices K.Sinks devices.old sinks.old)
-            (outside D.J.Journal D.Devices K.Sinks devices.new sinks.new) result) }
+    ensures somehow { PlaysSomehow
+        (record { dir = dir.now; file = file.now; text = S.text scripts.old file.now })
+        (outside D.J.Journal D.Devices K.Sinks devices.old sinks.old)
+        (outside D.J.Journal D.Devices K.Sinks devices.new sinks.new) result }
     // when it fails
     ensures source { (i : ℕ) → result ≡ causes.Source i → Rose (S.faults scripts.old) (S.faults scripts.new) }
     // what stays
     ensures untouched { IsBeforeOpening result → devices.new ≡ devices.old }
     ensures silent { IsBeforeOpening result → sinks.new ≡ sinks.old }
 {
-    let text = match read_script(alloc, scripts, file) {
-        Ok(text) => text,
-        Err(ReadFault::Source) => return Cause::Source(1),
-        Err(ReadFault::TooLong) => return Cause::Limit(LimitKind::Script, 16_777_216),
-        Err(ReadFault::Memory) => return Cause::Memory,
-    };
-    let commands = match parse(alloc, &text) {
+    let commands = match read_commands(alloc, scripts, file) {
         Ok(commands) => commands,
-        Err(ParseFault::Bad { line, why }) => return Cause::Script(1, line, why),
-        Err(ParseFault::Memory) => return Cause::Memory,
+        Err(cause) => return cause,
     };
     run_commands(alloc, dir, file, devices, sinks, commands)
 }
@@ -89,12 +78,10 @@ pub fn top_plain<D: Devices, S: Scripts, K: Sinks>(
             (record { dir = names.0; file = names.1; text = S.text scripts.old names.1 })
             (outside D.J.Journal D.Devices K.Sinks devices sinks.old)
             (outside D.J.Journal D.Devices K.Sinks result.devices sinks.new) result.cause) }
-    ensures somehow { IfSome (run_words (map string_bytes words.now)) (λ names. (base : Batches)
-        × ((IsTrue D.J.tells → ReadsAs Small base (D.journal_told devices).seen)
-        × Plays (start_at (D.journal_told devices) Small false base)
-            (record { dir = names.0; file = names.1; text = S.text scripts.old names.1 })
-            (outside D.J.Journal D.Devices K.Sinks devices sinks.old)
-            (outside D.J.Journal D.Devices K.Sinks result.devices sinks.new) result.cause)) }
+    ensures somehow { IfSome (run_words (map string_bytes words.now)) (λ names. PlaysSomehow
+        (record { dir = names.0; file = names.1; text = S.text scripts.old names.1 })
+        (outside D.J.Journal D.Devices K.Sinks devices sinks.old)
+        (outside D.J.Journal D.Devices K.Sinks result.devices sinks.new) result.cause) }
     // how it ends
     ensures status { result.status ≡ status_of result.cause }
     ensures usage { (result.cause ≡ causes.Usage) ↔ (run_words (map string_bytes words.now) ≡ None) }

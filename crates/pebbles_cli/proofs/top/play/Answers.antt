@@ -1,45 +1,20 @@
-use Rattle.std.proofs.Common.{◌⊎◌, sym, subst}
-use Rattle.disk_model.specs.Images.{Rose}
-use Rattle.pebbles_cli.specs.Read.{IsWhole}
-use Rattle.pebbles_cli.specs.Causes.{Says}
-use Rattle.pebbles_cli.proofs.Playing.{says_all, play_cause, run_is_after, plays_from}
+use Rattle.std.proofs.Common.{inl}
+use Rattle.pebbles_cli.specs.Outside.{outside}
+use Rattle.pebbles_cli.proofs.Handing.{nothing_opened}
 use Rattle.pebbles_cli.proofs.top.play.Goals as goal
 
-pub returns-clause-untouched : goal.returns-clause-untouched
-returns-clause-untouched g c = λ before.
-    absurd (run_is_after c.run_commands.result
-    (Rose (g.D.Devices.faults c.args.devices.now) (g.D.Devices.faults c.run_commands.new.devices) ⊎ Rose (g.D.Devices.journal_told c.args.devices.now).faults (g.D.Devices.journal_told c.run_commands.new.devices).faults)
-    (Rose (g.K.Sinks.faults c.args.sinks.now) (g.K.Sinks.faults c.run_commands.new.sinks)) (Rose 0 (g.K.Sinks.client_faults c.run_commands.new.sinks 1)) g.D.J.Journal.tells (g.D.Devices.journal_told c.args.devices.now).seen
-    c.run_commands.ensures.cause before)
+pub returns-in-Err-clause-ran : goal.returns-in-Err-clause-ran
+returns-in-Err-clause-ran g c = λ told honest base on.
+    inl (nothing_opened _ (outside g.D.J.Journal g.D.Devices g.K.Sinks c.args.devices.now c.args.sinks.now) _ (g.met.D.Devices.counts_now c.args.devices.now) (g.met.D.Devices.only_now c.args.devices.now)
+    (inl c.in-Err.ensures.refused))
 
-pub returns-clause-silent : goal.returns-clause-silent
-returns-clause-silent g c = λ before.
-    absurd (run_is_after c.run_commands.result
-    (Rose (g.D.Devices.faults c.args.devices.now) (g.D.Devices.faults c.run_commands.new.devices) ⊎ Rose (g.D.Devices.journal_told c.args.devices.now).faults (g.D.Devices.journal_told c.run_commands.new.devices).faults)
-    (Rose (g.K.Sinks.faults c.args.sinks.now) (g.K.Sinks.faults c.run_commands.new.sinks)) (Rose 0 (g.K.Sinks.client_faults c.run_commands.new.sinks 1)) g.D.J.Journal.tells (g.D.Devices.journal_told c.args.devices.now).seen
-    c.run_commands.ensures.cause before)
+pub returns-in-Err-clause-somehow : goal.returns-in-Err-clause-somehow
+returns-in-Err-clause-somehow g c =
+    inl (nothing_opened _ (outside g.D.J.Journal g.D.Devices g.K.Sinks c.args.devices.now c.args.sinks.now) _ (g.met.D.Devices.counts_now c.args.devices.now) (g.met.D.Devices.only_now c.args.devices.now)
+    (inl c.in-Err.ensures.refused))
 
 pub returns-clause-ran : goal.returns-clause-ran
-returns-clause-ran g c = λ told honest base on.
-    let text = g.S.Scripts.text c.args.scripts.now c.args.file.now in
-    let whole : IsWhole text c.deref.result.now = subst (IsWhole text) (sym c.deref.ensures.value) c.in-Ok.ensures.whole in
-    let says : Says text c.in-Ok-parse.commands.items = says_all text c.deref.result.now c.in-Ok-parse.commands.items whole c.in-Ok-parse.ensures in
-    plays_from text c.in-Ok-parse.commands.items says (c.run_commands.ensures.ran told honest base on)
+returns-clause-ran g c = λ told honest base on. c.run_commands.ensures.ran told _ c.in-Ok.ensures.short c.in-Ok.ensures.says honest base on
 
 pub returns-clause-somehow : goal.returns-clause-somehow
-returns-clause-somehow g c =
-    let text = g.S.Scripts.text c.args.scripts.now c.args.file.now in
-    let whole : IsWhole text c.deref.result.now = subst (IsWhole text) (sym c.deref.ensures.value) c.in-Ok.ensures.whole in
-    let says : Says text c.in-Ok-parse.commands.items = says_all text c.deref.result.now c.in-Ok-parse.commands.items whole c.in-Ok-parse.ensures in
-    let run = c.run_commands.ensures.somehow in
-    (run.0, plays_from text c.in-Ok-parse.commands.items says run.1)
-
-pub returns-clause-cause : goal.returns-clause-cause
-returns-clause-cause g c =
-    let text = g.S.Scripts.text c.args.scripts.now c.args.file.now in
-    let whole : IsWhole text c.deref.result.now = subst (IsWhole text) (sym c.deref.ensures.value) c.in-Ok.ensures.whole in
-    let says : Says text c.in-Ok-parse.commands.items = says_all text c.deref.result.now c.in-Ok-parse.commands.items whole c.in-Ok-parse.ensures in
-    play_cause c.run_commands.result (Rose (g.S.Scripts.faults c.args.scripts.now) (g.S.Scripts.faults c.read_script.new.scripts))
-    (Rose (g.D.Devices.faults c.args.devices.now) (g.D.Devices.faults c.run_commands.new.devices) ⊎ Rose (g.D.Devices.journal_told c.args.devices.now).faults (g.D.Devices.journal_told c.run_commands.new.devices).faults)
-    (Rose (g.K.Sinks.faults c.args.sinks.now) (g.K.Sinks.faults c.run_commands.new.sinks)) (Rose 0 (g.K.Sinks.client_faults c.run_commands.new.sinks 1)) g.D.J.Journal.tells (g.D.Devices.journal_told c.args.devices.now).seen
-    text (c.in-Ok.ensures.within, (c.in-Ok-parse.commands.items, says)) c.run_commands.ensures.cause
+returns-clause-somehow g c = c.run_commands.ensures.somehow _ c.in-Ok.ensures.short c.in-Ok.ensures.says
