@@ -88,13 +88,13 @@ pub fn run_commands<D: Devices, K: Sinks>(
         → (honest : Bool) (base : Batches)
         → OpensOn Small honest base (D.journal_told devices.old).seen (D.journal_told devices.old).may_leave
         → Plays (start_at (D.journal_told devices.old) Small honest base)
-            (record { dir = dir.now; file = file.now; text = text })
-            (outside D.J.Journal D.Devices K.Sinks devices.old sinks.old)
-            (outside D.J.Journal D.Devices K.Sinks devices.new sinks.new) result }
+        (record { dir = dir.now; file = file.now; text = text })
+        (outside D.J.Journal D.Devices K.Sinks devices.old sinks.old)
+        (outside D.J.Journal D.Devices K.Sinks devices.new sinks.new) result }
     ensures somehow { (text : Option (List ℕ)) → IsWithin text 16777216 → Says text commands.items
         → PlaysSomehow (record { dir = dir.now; file = file.now; text = text })
-            (outside D.J.Journal D.Devices K.Sinks devices.old sinks.old)
-            (outside D.J.Journal D.Devices K.Sinks devices.new sinks.new) result }
+        (outside D.J.Journal D.Devices K.Sinks devices.old sinks.old)
+        (outside D.J.Journal D.Devices K.Sinks devices.new sinks.new) result }
     ensures after_opening { IsBeforeOpening result → ⊥ }
 {
     let Ok(name) = reply_name(alloc, file) else {

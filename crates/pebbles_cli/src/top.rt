@@ -32,9 +32,9 @@ fn play<D: Devices, S: Scripts, K: Sinks>(
     ensures ran { IsTrue D.J.tells → (honest : Bool) (base : Batches)
         → OpensOn Small honest base (D.journal_told devices.old).seen (D.journal_told devices.old).may_leave
         → Plays (start_at (D.journal_told devices.old) Small honest base)
-            (record { dir = dir.now; file = file.now; text = S.text scripts.old file.now })
-            (outside D.J.Journal D.Devices K.Sinks devices.old sinks.old)
-            (outside D.J.Journal D.Devices K.Sinks devices.new sinks.new) result }
+        (record { dir = dir.now; file = file.now; text = S.text scripts.old file.now })
+        (outside D.J.Journal D.Devices K.Sinks devices.old sinks.old)
+        (outside D.J.Journal D.Devices K.Sinks devices.new sinks.new) result }
     ensures somehow { PlaysSomehow
         (record { dir = dir.now; file = file.now; text = S.text scripts.old file.now })
         (outside D.J.Journal D.Devices K.Sinks devices.old sinks.old)
@@ -75,9 +75,9 @@ pub fn top_plain<D: Devices, S: Scripts, K: Sinks>(
         → (honest : Bool) (base : Batches)
         → OpensOn Small honest base (D.journal_told devices).seen (D.journal_told devices).may_leave
         → Plays (start_at (D.journal_told devices) Small honest base)
-            (record { dir = names.0; file = names.1; text = S.text scripts.old names.1 })
-            (outside D.J.Journal D.Devices K.Sinks devices sinks.old)
-            (outside D.J.Journal D.Devices K.Sinks result.devices sinks.new) result.cause) }
+        (record { dir = names.0; file = names.1; text = S.text scripts.old names.1 })
+        (outside D.J.Journal D.Devices K.Sinks devices sinks.old)
+        (outside D.J.Journal D.Devices K.Sinks result.devices sinks.new) result.cause) }
     ensures somehow { IfSome (run_words (map string_bytes words.now)) (λ names. PlaysSomehow
         (record { dir = names.0; file = names.1; text = S.text scripts.old names.1 })
         (outside D.J.Journal D.Devices K.Sinks devices sinks.old)

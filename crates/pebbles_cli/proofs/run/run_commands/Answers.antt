@@ -77,12 +77,18 @@ returns-clause-somehow g c = λ text short says.
     let start : Start = start_at old.devices.journal Small false state.0 in
     let served = c.serve_client-served.ensures.served (opened start) state.1.1 in
     let closed = c.close_run.ensures.closed served.0.place served.1.0 in
-    inr (state.0, (state.1.0, ran_of start _ old mid new c.close_run.result (state_session c.in-Ok-open_store.state) c.args.commands.items c.as_str.result.now served.0 closed.0 short says state.1.2
-    (c.close_run.ensures.directories ∙ c.in-Ok-open_store.ensures.opened) (c.as_str.ensures.value ∙ c.in-Ok.ensures) served.1.2 closed.1.0
-    (record { names = c.close_run.ensures.clients.names; replies = c.close_run.ensures.clients.took 1; faults = c.close_run.ensures.clients.faults 1; never_falls = c.close_run.ensures.never_falls })
-    c.serve_client-served.ensures.report c.serve_client-served.ensures.never_falls
-    (closed.1.1 ∙ ap (λ (s : Served). end_of s.fault s.sink_failed (sync_cause closed.0.answer) closed.0.report) (sym served.1.1))
-    (tables_then c.open_store.ensures.tables c.close_run.ensures.tables)))
+    inr (
+      state.0,
+      (
+        state.1.0,
+        ran_of start _ old mid new c.close_run.result (state_session c.in-Ok-open_store.state) c.args.commands.items c.as_str.result.now served.0 closed.0 short says state.1.2
+            (c.close_run.ensures.directories ∙ c.in-Ok-open_store.ensures.opened) (c.as_str.ensures.value ∙ c.in-Ok.ensures) served.1.2 closed.1.0
+            (record { names = c.close_run.ensures.clients.names; replies = c.close_run.ensures.clients.took 1; faults = c.close_run.ensures.clients.faults 1; never_falls = c.close_run.ensures.never_falls })
+            c.serve_client-served.ensures.report c.serve_client-served.ensures.never_falls
+            (closed.1.1 ∙ ap (λ (s : Served). end_of s.fault s.sink_failed (sync_cause closed.0.answer) closed.0.report) (sym served.1.1))
+            (tables_then c.open_store.ensures.tables c.close_run.ensures.tables),
+      ),
+    )
 
 pub returns-clause-after_opening : goal.returns-clause-after_opening
 returns-clause-after_opening g c = λ before.
