@@ -31,7 +31,7 @@ fn play<D: Devices, S: Scripts, K: Sinks>(
     ensures silent { IsBeforeOpening result → sinks.new ≡ sinks.old }
     ensures ran { IsTrue D.J.tells → (honest : Bool) (base : Batches) → OpensOn honest base (D.journal_told devices.old).seen (D.journal_told devices.old).may_leave
         → PlaysOn (dir.now, file.now) true D.J.tells honest base (S.text scripts.old file.now)
-            (outside D.Devices K.Sinks devices.old sinks.old) (outside D.Devices K.Sinks devices.new sinks.new) result }
+        (outside D.Devices K.Sinks devices.old sinks.old) (outside D.Devices K.Sinks devices.new sinks.new) result }
     ensures somehow { (base : Batches) × PlaysOn (dir.now, file.now) false D.J.tells false base (S.text scripts.old file.now)
         (outside D.Devices K.Sinks devices.old sinks.old) (outside D.Devices K.Sinks devices.new sinks.new) result }
     ensures cause { PlayCause (Rose (S.faults scripts.old) (S.faults scripts.new))
@@ -72,7 +72,7 @@ pub fn top_plain<D: Devices, S: Scripts, K: Sinks>(
     ensures unread { (result.cause ≡ causes.Usage) → scripts.new ≡ scripts.old }
     ensures ran { IfSome (run_words (map string_bytes words.now)) (λ names. IsTrue D.J.tells → (honest : Bool) (base : Batches) → OpensOn honest base (D.journal_told devices).seen (D.journal_told devices).may_leave
         → PlaysOn names true D.J.tells honest base (S.text scripts.old names.1)
-            (outside D.Devices K.Sinks devices sinks.old) (outside D.Devices K.Sinks result.devices sinks.new) result.cause) }
+        (outside D.Devices K.Sinks devices sinks.old) (outside D.Devices K.Sinks result.devices sinks.new) result.cause) }
     ensures somehow { IfSome (run_words (map string_bytes words.now)) (λ names. (base : Batches) × PlaysOn names false D.J.tells false base (S.text scripts.old names.1)
         (outside D.Devices K.Sinks devices sinks.old) (outside D.Devices K.Sinks result.devices sinks.new) result.cause) }
     ensures cause { IfSome (run_words (map string_bytes words.now)) (λ names. PlayCause (Rose (S.faults scripts.old) (S.faults scripts.new))
