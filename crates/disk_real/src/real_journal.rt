@@ -39,6 +39,8 @@ impl<R: Files<File: KeepOut> + AllocGlobal + Clone + Drop> RealJournal<R> {
 impl<R: Files<File: KeepOut> + AllocGlobal + Clone + Drop> Journal for RealJournal<R> {
     ghost tells = { false };
 
+    ghost is_atomic = { false };
+
     ghost seen = { λ _ _. None };
 
     ghost may_leave = { λ _ _. ⊥ };

@@ -82,6 +82,8 @@ impl<R: Files<File: KeepOut> + Wait + Drop> Drop for RealTable<R> {
 impl<R: Files<File: KeepOut> + Wait + Drop> TableHandle for RealTable<R> {
     ghost tells = { false };
 
+    ghost is_atomic = { false };
+
     ghost number = { λ table. table.number };
 
     ghost bytes = { λ _. [] };
