@@ -10,7 +10,7 @@ use Rattle.disk_model.specs.declared.shelf.Shelf.{Shelf}
 use Rattle.disk_model.specs.declared.pick.Pick.{Pick}
 use Rattle.disk_model.specs.Tables.{Sealed, Gone, IsTableImage, StaysOrGoes, is_among, is_gone, joined}
 use Rattle.disk_model.specs.TableLists.{table_bytes, table_in}
-use Rattle.disk_model.specs.Shelf.{kept_by, gone_of, gone_by, begun_by, is_begun, is_lost, is_taken_away, without}
+use Rattle.disk_model.specs.Shelf.{kept_by, gone_of, gone_by, begun_by, is_begun, is_lost, is_done, without}
 
 table_in-append : (a b : List MemTableFile) (n : ℕ) → table_in (a ++ b) n ≡ option_or (table_in a n) (table_in b n)
 table_in-append [] b n = refl
@@ -93,8 +93,17 @@ made_begun made old taken is n holds =
 
 -- what a pick leaves is what a crash may leave
 pub lost_left : (pick : Pick) (shelf : Shelf) (left : Sealed) → ((n : ℕ) → left n ≡ without (is_lost pick (gone_by shelf)) (kept_by shelf) n) → IsTableImage (kept_by shelf) (gone_by shelf) left
-lost_left pick shelf left same n = by (is_taken_away pick n) (is_gone (gone_by shelf) n) refl (same n) where
+lost_left pick shelf left same n = by (is_done pick n) (is_gone (gone_by shelf) n) refl (same n) where
   by : (taken gone : Bool) → is_gone (gone_by shelf) n ≡ gone → left n ≡ cond (taken && gone) None (kept_by shelf n) → StaysOrGoes (gone_by shelf) n (kept_by shelf n) (left n)
   by true true is e = inr (is, e)
   by true false is e = inl e
   by false gone is e = inl e
+
+second : (a b : Bool) → IsTrue (a && b) → IsTrue b
+second true b both = both
+second false b both = absurd cc
+
+-- a number that a crash leaves unsealed was begun and not sealed
+pub left_begun : (pick : Pick) (shelf : Shelf) (left : ℕ → Bool) → ((n : ℕ) → left n ≡ (is_done pick n && (not (is_gone (gone_by shelf) n) && begun_by shelf n)))
+    → (n : ℕ) → IsTrue (left n) → IsTrue (not (is_gone (gone_by shelf) n) && begun_by shelf n)
+left_begun pick shelf left same n is = second (is_done pick n) (not (is_gone (gone_by shelf) n) && begun_by shelf n) (sym (same n) ∙ is)

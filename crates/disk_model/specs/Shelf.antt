@@ -23,7 +23,7 @@ is_begun (Some number) n = number == n
 
 -- each table that was sealed, also where it was retired or removed since; the latest of its number counts
 abbrev pub kept_by : Shelf → Sealed
-kept_by (Resting tables) n = table_in tables.items n
+kept_by (Resting tables) n = table_in tables.sealed.items n
 kept_by (More' made place earlier) n = option_or (table_in made.tables.items n) (kept_by earlier n)
 
 -- the numbers that a maker retired and removed
@@ -37,12 +37,31 @@ gone_by (More' made place earlier) = joined (gone_by earlier) (gone_of made)
 
 -- a table of this number was begun and not sealed
 abbrev pub begun_by : Shelf → ℕ → Bool
-begun_by (Resting tables) n = false
+begun_by (Resting tables) n = is_among tables.unsealed.items n
 begun_by (More' made place earlier) n = is_begun made.begun n || begun_by earlier n
 
 -- the tables but those that are lost
 abbrev pub without : (ℕ → Bool) → Sealed → Sealed
 without lost sealed n = if lost n then None else sealed n
+
+-- whether what was done with the file of this number, and isn't durable, stands after a crash: never by Old, always by
+-- New, else by a bit of the seed
+abbrev pub is_done : Pick → ℕ → Bool
+is_done Old n = false
+is_done New n = true
+is_done (Seeded seed) n = (seed / 2 ^ (n % 64)) % 2 == 1
+
+-- a crash loses this table
+abbrev pub is_lost : Pick → Gone → ℕ → Bool
+is_lost pick gone n = is_done pick n && is_gone gone n
+
+-- the table files that a crash leaves: each sealed table, but perhaps those that were retired or removed; and perhaps
+-- those that were begun and not sealed
+abbrev pub files_left : Pick → Shelf → TableFiles
+files_left pick shelf = record {
+  sealed = without (is_lost pick (gone_by shelf)) (kept_by shelf);
+  is_unsealed = λ n. is_done pick n && (not (is_gone (gone_by shelf) n) && begun_by shelf n);
+}
 
 -- the table files that are there
 abbrev pub files_of : Shelf → TableFiles
@@ -50,16 +69,6 @@ files_of shelf = record {
   sealed = without (is_gone (gone_by shelf)) (kept_by shelf);
   is_unsealed = λ n. not (is_gone (gone_by shelf) n) && begun_by shelf n;
 }
-
--- a crash takes this table away, if it was retired or removed: never by Old, always by New, else by a bit of the seed
-abbrev pub is_taken_away : Pick → ℕ → Bool
-is_taken_away Old n = false
-is_taken_away New n = true
-is_taken_away (Seeded seed) n = (seed / 2 ^ (n % 64)) % 2 == 1
-
--- a crash loses this table
-abbrev pub is_lost : Pick → Gone → ℕ → Bool
-is_lost pick gone n = is_taken_away pick n && is_gone gone n
 
 -- what the ports and makers that were handed back did
 abbrev pub tally_of : Stock → Tally

@@ -37,6 +37,8 @@ pub trait Maker {
         ensures empty { OnOk result (written self.new ≡ []) }
         ensures earlier { OnErr result ((begun self.new ≡ None)
             ⊎ ((begun self.new ≡ begun self.old) × (written self.new ≡ written self.old))) }
+        ensures undone { OnErr result (IsTrue Self.File.is_atomic →
+            (begun self.new ≡ begun self.old) × (written self.new ≡ written self.old)) }
         ensures sealed { sealed self.new ≡ sealed self.old }
         ensures gone { gone self.new ≡ gone self.old }
         ensures taken { taken self.new ≡ taken self.old }
@@ -50,8 +52,10 @@ pub trait Maker {
         requires { IsSome (begun self.old) }
         ensures written { OnOk result (IsTrue Self.File.tells → written self.new ≡ written self.old ++ bytes.now) }
         ensures counted { OnOk result (taken self.new ≡ capped (taken self.old + length bytes.now)) }
-        ensures some { OnErr result (TakesSome Self.File.tells bytes.now
+        ensures in_part { OnErr result (TakesSome Self.File.tells bytes.now
             (taken self.old) (taken self.new) (written self.old) (written self.new)) }
+        ensures undone { OnErr result (IsTrue Self.File.is_atomic →
+            (taken self.new ≡ taken self.old) × (written self.new ≡ written self.old)) }
         ensures begun { begun self.new ≡ begun self.old }
         ensures sealed { sealed self.new ≡ sealed self.old }
         ensures gone { gone self.new ≡ gone self.old }
@@ -86,6 +90,7 @@ pub trait Maker {
         ensures retired { OnOk result (gone self.new ≡ with_retired (Self.File.number file.now) (gone self.old)) }
         ensures perhaps { OnErr result ((gone self.new ≡ gone self.old)
             ⊎ (gone self.new ≡ with_retired (Self.File.number file.now) (gone self.old))) }
+        ensures undone { OnErr result (IsTrue Self.File.is_atomic → gone self.new ≡ gone self.old) }
         ensures begun { begun self.new ≡ begun self.old }
         ensures written { written self.new ≡ written self.old }
         ensures sealed { sealed self.new ≡ sealed self.old }
@@ -99,6 +104,7 @@ pub trait Maker {
         ensures removed { OnOk result (gone self.new ≡ with_removed number (gone self.old)) }
         ensures perhaps { OnErr result ((gone self.new ≡ gone self.old)
             ⊎ (gone self.new ≡ with_removed number (gone self.old))) }
+        ensures undone { OnErr result (IsTrue Self.File.is_atomic → gone self.new ≡ gone self.old) }
         ensures begun { begun self.new ≡ begun self.old }
         ensures written { written self.new ≡ written self.old }
         ensures sealed { sealed self.new ≡ sealed self.old }

@@ -1,17 +1,18 @@
-ghost use Rattle.std.specs.Prelude.{◌≡◌, ℕ, None, Some, IfOk};
+ghost use Rattle.std.specs.Prelude.{◌≡◌, ℕ, None, Some, IfOk, false};
 ghost use Rattle.std.specs.Arc.{arc_value};
 ghost use Rattle.std.specs.Option.{option_copied};
 ghost use Rattle.disk_model.specs.declared.pick.Pick.TheVariants.{Old, New};
 ghost use Rattle.disk_model.specs.Directories.{no_directories};
 ghost use Rattle.disk_model.specs.Files.{changed};
 ghost use Rattle.disk_model.specs.Images.{IsAtRest};
-ghost use Rattle.disk_model.specs.Plans.{IsEmptyPlan};
+ghost use Rattle.disk_model.specs.Plans.{IsEmptyPlan, AreEmptyPlans};
 ghost use Rattle.disk_model.specs.Shelf.{files_of, kept_by, tally_of, there_left};
-ghost use Rattle.disk_model.specs.Tables.{with_table};
+ghost use Rattle.disk_model.specs.Tables.{with_table, is_listed};
 ghost use Rattle.disk_model.specs.Told.{TellsTheSame, TablesStay, TablesRest, MayLeaveTables, told_by};
 ghost use Rattle.disk_model.specs.Ports.{IsNewPort};
 
 use crate::kind_turns::KindTurns;
+use crate::port_tables::PortTables;
 use crate::shelf::Shelf;
 use crate::stock::Stock;
 use crate::{
@@ -37,6 +38,7 @@ pub struct MemDevices {
 
 impl MemDevices {
     ghost use Rattle.disk_model.specs.Synced.{synced_of};
+    ghost use Rattle.disk_model.specs.Failing.{plans_of};
 
     /// Devices with no file, of which a crash leaves no file.
     ///
@@ -48,11 +50,12 @@ impl MemDevices {
         ensures count { IfOk result (λ devices. (⟦<MemDevices as Devices>⟧.journal_told devices).faults ≡ 0) }
         ensures faults { IfOk result (λ devices. ⟦<MemDevices as Devices>⟧.faults devices ≡ 0) }
         ensures steady { IsEmptyPlan plans.journal → IfOk result (λ devices. (⟦<MemDevices as Devices>⟧.journal_told devices).steady) }
-        ensures no_tables { IfOk result (λ devices. (n : ℕ) → (⟦<MemDevices as Devices>⟧.tables_told devices).files.sealed n ≡ None) }
+        ensures no_tables { IfOk result (λ devices. (n : ℕ) → is_listed (⟦<MemDevices as Devices>⟧.tables_told devices).files n ≡ false) }
         ensures tables_rest { IfOk result (λ devices. TablesRest (⟦<MemDevices as Devices>⟧.tables_told devices)) }
         ensures table_faults { IfOk result (λ devices. (⟦<MemDevices as Devices>⟧.tables_told devices).faults ≡ 0) }
         ensures ports_steady { IsEmptyPlan plans.port → IfOk result (λ devices. (⟦<MemDevices as Devices>⟧.tables_told devices).steady) }
         ensures directories { IfOk result (λ devices. ⟦<MemDevices as Devices>⟧.directories devices ≡ no_directories) }
+        ensures plans { IfOk result (λ devices. plans_of devices ≡ plans) }
     {
         let journal = MemJournal::new(alloc, plans.journal);
         let ports = Arc::new(alloc, KindTurns::new(plans.port))?;
@@ -62,7 +65,7 @@ impl MemDevices {
             journal,
             ports,
             makers,
-            stock: Stock::resting(Vec::new(alloc)),
+            stock: Stock::resting(PortTables::none(alloc)),
             directories: Directories::none(),
             faults: 0,
         })
@@ -70,7 +73,8 @@ impl MemDevices {
 
     /// The devices after a crash: they hold one image that the crash may leave, and no call of them fails by
     /// a plan, and no directory is chosen yet. `Old` takes of each file what its last sync or removal left, and each table that was retired or
-    /// removed; `New` takes what reads give. No table that was begun and not sealed is left.
+    /// removed, and no table that was begun and not sealed; `New` takes what is there. `Seeded` draws for each number
+    /// whether what was done with its table's file stands. A table that is left unsealed is listed and not found.
     ///
     /// Memory is the one refusal; the devices are then gone.
     pub fn crash(self, pick: Pick) -> Result<MemDevices, Memory>
@@ -86,12 +90,14 @@ impl MemDevices {
         ensures tables { IfOk result (λ after. MayLeaveTables (⟦<MemDevices as Devices>⟧.tables_told self) (⟦<MemDevices as Devices>⟧.tables_told after).files) }
         ensures old_tables { pick ≡ Old → IfOk result (λ after. (n : ℕ) →
             (⟦<MemDevices as Devices>⟧.tables_told after).files.sealed n ≡ (⟦<MemDevices as Devices>⟧.tables_told self).kept n) }
-        ensures new_tables { pick ≡ New → IfOk result (λ after. (n : ℕ) →
-            (⟦<MemDevices as Devices>⟧.tables_told after).files.sealed n ≡ (⟦<MemDevices as Devices>⟧.tables_told self).files.sealed n) }
+        ensures old_unsealed { pick ≡ Old → IfOk result (λ after. (n : ℕ) →
+            (⟦<MemDevices as Devices>⟧.tables_told after).files.is_unsealed n ≡ false) }
+        ensures new_tables { pick ≡ New → IfOk result (λ after. (⟦<MemDevices as Devices>⟧.tables_told after).files ≡ (⟦<MemDevices as Devices>⟧.tables_told self).files) }
         ensures tables_rest { IfOk result (λ after. TablesRest (⟦<MemDevices as Devices>⟧.tables_told after)) }
         ensures table_faults { IfOk result (λ after. (⟦<MemDevices as Devices>⟧.tables_told after).faults ≡ 0) }
         ensures ports_steady { IfOk result (λ after. (⟦<MemDevices as Devices>⟧.tables_told after).steady) }
         ensures directories { IfOk result (λ after. ⟦<MemDevices as Devices>⟧.directories after ≡ no_directories) }
+        ensures plans { IfOk result (λ after. AreEmptyPlans (plans_of after)) }
     {
         let alloc = self.alloc;
         let tables = self.stock.shelf.leave(alloc, pick)?;
@@ -121,6 +127,7 @@ impl MemDevices {
         ensures tables { IfOk result (λ after.
             TablesStay (⟦<MemDevices as Devices>⟧.tables_told self) (⟦<MemDevices as Devices>⟧.tables_told after)) }
         ensures directories { IfOk result (λ after. ⟦<MemDevices as Devices>⟧.directories after ≡ ⟦<MemDevices as Devices>⟧.directories self) }
+        ensures plans { IfOk result (λ after. plans_of after ≡ plans_of self) }
     {
         Ok(MemDevices {
             journal: self.journal.with_file(file, bytes)?,
@@ -137,6 +144,8 @@ impl MemDevices {
     pub fn with_table(self, number: u64, bytes: &[u8]) -> Result<MemDevices, Memory>
         ensures sealed { IfOk result (λ after. (n : ℕ) → (⟦<MemDevices as Devices>⟧.tables_told after).files.sealed n
             ≡ with_table number bytes.now (⟦<MemDevices as Devices>⟧.tables_told self).files.sealed n) }
+        ensures unsealed { IfOk result (λ after. (n : ℕ) → (⟦<MemDevices as Devices>⟧.tables_told after).files.is_unsealed n
+            ≡ (⟦<MemDevices as Devices>⟧.tables_told self).files.is_unsealed n) }
         ensures rests { IfOk result (λ after. TablesRest (⟦<MemDevices as Devices>⟧.tables_told after)) }
         ensures table_faults { IfOk result (λ after. (⟦<MemDevices as Devices>⟧.tables_told after).faults ≡ 0) }
         ensures ports_steady { (⟦<MemDevices as Devices>⟧.tables_told self).steady →
@@ -145,10 +154,11 @@ impl MemDevices {
             TellsTheSame (⟦<MemDevices as Devices>⟧.journal_told self) (⟦<MemDevices as Devices>⟧.journal_told after)) }
         ensures faults { IfOk result (λ after. ⟦<MemDevices as Devices>⟧.faults after ≡ ⟦<MemDevices as Devices>⟧.faults self) }
         ensures directories { IfOk result (λ after. ⟦<MemDevices as Devices>⟧.directories after ≡ ⟦<MemDevices as Devices>⟧.directories self) }
+        ensures plans { IfOk result (λ after. plans_of after ≡ plans_of self) }
     {
         let mut tables = self.stock.shelf.leave(self.alloc, Pick::New)?;
         let table = MemTableFile::new(self.alloc, number, bytes)?;
-        tables.insert(0, table)?;
+        tables.sealed.insert(0, table)?;
         Ok(MemDevices {
             stock: Stock::resting(tables),
             ..self
@@ -179,7 +189,8 @@ impl MemDevices {
     fn make_port(&self) -> Result<MemPort, AllocError>
         ensures { IfOk result (λ port. IsNewPort ⟦<MemPort as Port>⟧ (⟦<MemDevices as Devices>⟧.tables_told self.now) port) }
     {
-        let tables = Arc::new(self.alloc, self.stock.shelf.files(self.alloc)?)?;
+        let files = self.stock.shelf.leave(self.alloc, Pick::New)?;
+        let tables = Arc::new(self.alloc, files)?;
         let port = MemPort::new(self.alloc, &self.ports, tables)?;
         Ok(port)
     }
@@ -270,7 +281,7 @@ impl Devices for MemDevices {
             mut place,
             ..
         } = maker;
-        let none = Shelf::Resting(Vec::new(self.alloc));
+        let none = Shelf::Resting(PortTables::none(self.alloc));
         *place = mem::replace(&mut self.stock.shelf, none);
         self.stock.shelf = Shelf::More(made, place);
     }

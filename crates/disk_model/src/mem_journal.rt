@@ -1,11 +1,11 @@
-ghost use Rattle.std.specs.Prelude.{◌≡◌, ◌^◌, ◌<◌, ◌≤◌, None, Some, IfSome, IfOk, length, take, drop, true, reverse};
+ghost use Rattle.std.specs.Prelude.{◌≡◌, ◌^◌, ◌<◌, ◌≤◌, ◌+◌, ◌%◌, None, Some, IfSome, IfOk, OnErr, IsTrue, is_err, length, take, drop, true, reverse};
 ghost use Rattle.std.proofs.Props.{props};
 ghost use Rattle.disk_model.specs.declared.journal_file.JournalFile.{JournalFile};
 ghost use Rattle.std.specs.Option.{option_copied};
 ghost use Rattle.disk_model.specs.declared.pick.Pick.TheVariants.{Old, New};
 ghost use Rattle.disk_model.specs.Images.{content, size_of, IsAtRest};
 ghost use Rattle.disk_model.specs.Files.{image_of, changed};
-ghost use Rattle.disk_model.specs.Plans.{IsEmptyPlan};
+ghost use Rattle.disk_model.specs.Plans.{IsEmptyPlan, fails_at};
 ghost use Rattle.disk_model.specs.Past.{read_after, kept_after, AreCalls, AreCalls-prop};
 
 use crate::call::Call;
@@ -55,6 +55,8 @@ impl Journal for MemJournal {
     ghost use Rattle.disk_model.specs.Past.{IsLeft, IsLeftSince, left_now, only_left, kept_left};
 
     ghost tells = { true };
+
+    ghost is_atomic = { true };
 
     ghost seen = { λ m. image_of m.files.items };
 
@@ -113,12 +115,14 @@ impl Journal for MemJournal {
 }
 
 impl MemJournal {
+    ghost use Rattle.disk_model.specs.Failing.{journal_plan};
+
     /// A journal with no file.
     pub fn new(alloc: Global, plan: FailPlan) -> MemJournal
         ensures empty { ⟦<MemJournal as Journal>⟧.seen result ≡ (λ _. None) }
         ensures rests { IsAtRest (⟦<MemJournal as Journal>⟧.seen result) (⟦<MemJournal as Journal>⟧.may_leave result) }
         ensures faults { ⟦<MemJournal as Journal>⟧.faults result ≡ 0 }
-        ensures steady { IsEmptyPlan plan → ⟦<MemJournal as Journal>⟧.steady result }
+        ensures plan { journal_plan result ≡ plan }
     {
         MemJournal {
             alloc,
@@ -134,7 +138,7 @@ impl MemJournal {
         ensures seen { IfOk result (λ journal. ⟦<MemJournal as Journal>⟧.seen journal ≡ image_of first.items) }
         ensures rests { IfOk result (λ journal. IsAtRest (⟦<MemJournal as Journal>⟧.seen journal) (⟦<MemJournal as Journal>⟧.may_leave journal)) }
         ensures faults { IfOk result (λ journal. ⟦<MemJournal as Journal>⟧.faults journal ≡ 0) }
-        ensures steady { IsEmptyPlan plan → IfOk result (λ journal. ⟦<MemJournal as Journal>⟧.steady journal) }
+        ensures plan { IfOk result (λ journal. journal_plan journal ≡ plan) }
     {
         let files = copy_of(alloc, &first)?;
         Ok(MemJournal {
@@ -153,7 +157,7 @@ impl MemJournal {
         ensures new { pick ≡ New → IfOk result (λ after. ⟦<MemJournal as Journal>⟧.seen after ≡ ⟦<MemJournal as Journal>⟧.seen self) }
         ensures rests { IfOk result (λ after. IsAtRest (⟦<MemJournal as Journal>⟧.seen after) (⟦<MemJournal as Journal>⟧.may_leave after)) }
         ensures faults { IfOk result (λ after. ⟦<MemJournal as Journal>⟧.faults after ≡ 0) }
-        ensures steady { IfOk result (λ after. ⟦<MemJournal as Journal>⟧.steady after) }
+        ensures plan { IfOk result (λ after. IsEmptyPlan (journal_plan after)) }
     {
         let MemJournal {
             alloc,
@@ -172,7 +176,7 @@ impl MemJournal {
             ⟦<MemJournal as Journal>⟧.seen after ≡ changed file (Some bytes.now) (⟦<MemJournal as Journal>⟧.seen self)) }
         ensures rests { IfOk result (λ after. IsAtRest (⟦<MemJournal as Journal>⟧.seen after) (⟦<MemJournal as Journal>⟧.may_leave after)) }
         ensures faults { IfOk result (λ after. ⟦<MemJournal as Journal>⟧.faults after ≡ 0) }
-        ensures steady { ⟦<MemJournal as Journal>⟧.steady self → IfOk result (λ after. ⟦<MemJournal as Journal>⟧.steady after) }
+        ensures plan { IfOk result (λ after. journal_plan after ≡ journal_plan self) }
     {
         let MemJournal {
             alloc,

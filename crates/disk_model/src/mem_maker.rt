@@ -1,10 +1,11 @@
-ghost use Rattle.std.specs.Prelude.{◌≡◌, ◌<◌, ◌^◌, [], IfOk, None};
+ghost use Rattle.std.specs.Prelude.{◌≡◌, ◌<◌, ◌^◌, [], IfOk, OnErr, None};
 ghost use Rattle.std.specs.Arc.{arc_value};
 ghost use Rattle.disk_model.specs.TableLists.{table_in};
 ghost use Rattle.disk_model.specs.Shelf.{gone_of};
 
 use crate::kind_turns::KindTurns;
 use crate::made::Made;
+use crate::port_tables::PortTables;
 use crate::shared_turns::SharedTurns;
 use crate::shelf::Shelf;
 use crate::{Failed, Maker, MemTableFile};
@@ -27,6 +28,7 @@ pub struct MemMaker {
 impl MemMaker {
     /// A maker of these turns that made nothing yet.
     pub(crate) fn new(alloc: Global, kind: &Arc<KindTurns>) -> Result<MemMaker, AllocError>
+        ensures kind { IfOk result (λ maker. arc_value maker.turns.kind ≡ arc_value kind.now) }
         ensures faults { IfOk result (λ maker. maker.turns.faults ≡ 0) }
         ensures taken { IfOk result (λ maker. maker.taken ≡ 0) }
         ensures tables { IfOk result (λ maker. maker.made.tables.items ≡ []) }
@@ -40,7 +42,7 @@ impl MemMaker {
             written: Vec::new(alloc),
             taken: 0,
             made: Made::nothing(alloc),
-            place: Box::new(alloc, Shelf::Resting(Vec::new(alloc)))?,
+            place: Box::new(alloc, Shelf::Resting(PortTables::none(alloc)))?,
         })
     }
 }

@@ -17,6 +17,8 @@ impl TableHandle for MemTableFile {
 
     ghost tells = { true };
 
+    ghost is_atomic = { true };
+
     ghost number = { λ table. table.number };
 
     ghost bytes = { λ table. (arc_value table.bytes).items };

@@ -1,4 +1,4 @@
-ghost use Rattle.std.specs.Prelude.{◌≡◌, ◌≤◌, ◌<◌, ◌+◌, ◌^◌, ℕ, IsTrue, IsOk, IfOk, OnOk, IfSome, length, take, drop, option_map};
+ghost use Rattle.std.specs.Prelude.{◌≡◌, ◌≤◌, ◌<◌, ◌+◌, ◌^◌, ℕ, IsTrue, IsOk, IfOk, OnOk, OnErr, IfSome, length, take, drop, option_map};
 ghost use Rattle.std.specs.List.Sorted.{IsStrictlyIncreasing};
 ghost use Rattle.disk_model.specs.Images.{HasCause};
 ghost use Rattle.disk_model.specs.Faults.{RoseWhere};
@@ -71,6 +71,7 @@ pub trait Port {
         ensures counted { OnOk result (reads self.new ≡ capped (reads self.old + 1)) }
         ensures no_fewer { reads self.old ≤ reads self.new }
         ensures once { reads self.new ≤ reads self.old + 1 }
+        ensures undone { OnErr result (IsTrue Self.File.is_atomic → reads self.new ≡ reads self.old) }
         // when it fails
         ensures cause { HasCause (faults self.old) (faults self.new) result }
         ensures steady { steady self.old → IsOk result × steady self.new }

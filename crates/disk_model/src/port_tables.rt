@@ -1,4 +1,4 @@
-ghost use Rattle.std.specs.Prelude.{◌≡◌, ◌||◌, ℕ, IfOk, OnOk, is_some};
+ghost use Rattle.std.specs.Prelude.{◌≡◌, ◌||◌, [], ℕ, IfOk, OnOk, is_some};
 ghost use Rattle.disk_model.specs.Tables.{is_among, Lists};
 ghost use Rattle.disk_model.specs.TableLists.{table_in};
 ghost use Rattle.disk_model.specs.Shelf.{files_in};
@@ -30,6 +30,17 @@ fn numbers_of(alloc: Global, tables: &[MemTableFile]) -> Result<Vec<u64>, AllocE
 }
 
 impl PortTables {
+    /// No table file is there.
+    pub fn none(alloc: Global) -> PortTables
+        ensures sealed { result.sealed.items ≡ [] }
+        ensures unsealed { result.unsealed.items ≡ [] }
+    {
+        PortTables {
+            sealed: Vec::new(alloc),
+            unsealed: Vec::new(alloc),
+        }
+    }
+
     /// The numbers of all these table files, ascending.
     pub fn numbers(&self, alloc: Global) -> Result<Vec<u64>, AllocError>
         ensures { IfOk result (λ numbers. Lists (files_in self.now) numbers.items) }

@@ -1,6 +1,7 @@
-ghost use Rattle.std.specs.Prelude.{◌≡◌, ◌≤◌, IsOk, IfOk};
+ghost use Rattle.std.specs.Prelude.{◌≡◌, ◌≤◌, ◌+◌, IsOk, IfOk, OnOk, OnErr};
 ghost use Rattle.std.specs.Arc.{arc_value};
 ghost use Rattle.disk_model.specs.Images.{Rose, HasCause};
+ghost use Rattle.disk_model.specs.Tables.{capped};
 ghost use Rattle.disk_model.specs.Plans.{IsEmptyPlan};
 
 use crate::Failed;
@@ -29,6 +30,7 @@ impl SharedTurns {
     /// Counts a fault.
     pub fn fail(&mut self) -> Failed
         ensures kind { self.new.kind ≡ self.old.kind }
+        ensures counted { self.new.faults ≡ capped (self.old.faults + 1) }
         ensures later { self.old.faults ≤ self.new.faults }
         ensures rose { Rose self.old.faults self.new.faults }
     {
@@ -40,6 +42,8 @@ impl SharedTurns {
     pub fn begin(&mut self) -> Result<(), Failed>
         ensures kind { self.new.kind ≡ self.old.kind }
         ensures never { IsEmptyPlan (arc_value self.old.kind).plan → IsOk result }
+        ensures fault { OnErr result (self.new.faults ≡ capped (self.old.faults + 1)) }
+        ensures unfailed { OnOk result (self.new.faults ≡ self.old.faults) }
         ensures cause { HasCause self.old.faults self.new.faults result }
     {
         if self.kind.fails_next() {

@@ -1,8 +1,9 @@
-ghost use Rattle.std.specs.Prelude.{◌≡◌, ◌&&◌, ◌||◌, ◌∷◌, [], not, ℕ, IfOk, OnOk, IfSome, option_map, option_copied};
+ghost use Rattle.disk_model.specs.declared.pick.Pick.TheVariants.{New};
+ghost use Rattle.std.specs.Prelude.{◌≡◌, ◌&&◌, ◌||◌, ◌==◌, ◌∷◌, [], not, ℕ, IfOk, OnOk, IfSome, option_map, option_copied};
 ghost use Rattle.std.specs.Option.{option_or};
 ghost use Rattle.disk_model.specs.Tables.{is_among, is_gone};
 ghost use Rattle.disk_model.specs.TableLists.{table_bytes, table_in};
-ghost use Rattle.disk_model.specs.Shelf.{is_begun, kept_by, gone_by, begun_by, without, is_taken_away, is_lost, files_in, files_of};
+ghost use Rattle.disk_model.specs.Shelf.{is_begun, kept_by, gone_by, begun_by, without, is_done, is_lost, files_in, files_of, files_left};
 
 use crate::made::Made;
 use crate::port_tables::PortTables;
@@ -13,7 +14,7 @@ use std::alloc::{AllocError, Global};
 /// back, the latest first.
 #[derive(Drop)]
 pub enum Shelf {
-    Resting(Vec<MemTableFile>),
+    Resting(PortTables),
     More(Made, Box<Shelf>),
 }
 
@@ -34,9 +35,9 @@ pub fn table_of(tables: &[MemTableFile], number: u64) -> Option<&MemTableFile>
     }
 }
 
-/// Whether a crash takes this table away, if it was retired or removed.
-fn takes_away(pick: Pick, number: u64) -> bool
-    ensures { result ≡ is_taken_away pick number }
+/// Whether what was done with the file of this number, and isn't durable, stands after a crash.
+fn does(pick: Pick, number: u64) -> bool
+    ensures { result ≡ is_done pick number }
 {
     match pick {
         Pick::Old => false,
@@ -51,7 +52,7 @@ impl Shelf {
         ensures { option_map table_bytes (option_copied result) ≡ kept_by self.now number }
     {
         match self {
-            Shelf::Resting(tables) => table_of(tables, number),
+            Shelf::Resting(tables) => table_of(&tables.sealed, number),
             Shelf::More(made, earlier) => match table_of(&made.tables, number) {
                 Some(table) => Some(table),
                 None => earlier.kept(number),
@@ -73,7 +74,7 @@ impl Shelf {
     fn loses(&self, pick: Pick, number: u64) -> bool
         ensures { result ≡ is_lost pick (gone_by self.now) number }
     {
-        takes_away(pick, number) && self.has_lost(number)
+        does(pick, number) && self.has_lost(number)
     }
 
     /// Adds a handle of this table, if a crash leaves it.
@@ -123,7 +124,7 @@ impl Shelf {
             ≡ option_or (table_in left.old.items n) (without (is_lost pick (gone_by self.now)) (kept_by part.now) n)) }
     {
         match part {
-            Shelf::Resting(tables) => self.leave_of(pick, tables, left),
+            Shelf::Resting(tables) => self.leave_of(pick, &tables.sealed, left),
             Shelf::More(made, earlier) => {
                 self.leave_of(pick, &made.tables, left)?;
                 self.leave_part(pick, earlier, left)
@@ -131,59 +132,85 @@ impl Shelf {
         }
     }
 
-    /// A handle of each table that a crash leaves.
-    pub fn leave(&self, alloc: Global, pick: Pick) -> Result<Vec<MemTableFile>, AllocError>
-        ensures { IfOk result (λ left. (n : ℕ) → table_in left.items n ≡ without (is_lost pick (gone_by self.now)) (kept_by self.now) n) }
+    /// A handle of each sealed table that a crash leaves.
+    fn leave_sealed(&self, alloc: Global, pick: Pick) -> Result<Vec<MemTableFile>, AllocError>
+        ensures { IfOk result (λ left. (n : ℕ) → table_in left.items n ≡ (files_left pick self.now).sealed n) }
     {
         let mut left = Vec::new(alloc);
         self.leave_part(pick, self, &mut left)?;
         Ok(left)
     }
 
-    /// Adds this number, if it is begun and wasn't removed.
-    fn add_begun(&self, begun: Option<u64>, numbers: &mut Vec<u64>) -> Result<(), AllocError>
+    /// Adds this number, which was begun and not sealed, if a crash leaves it and it wasn't removed.
+    fn add_unsealed(
+        &self,
+        pick: Pick,
+        number: u64,
+        numbers: &mut Vec<u64>,
+    ) -> Result<(), AllocError>
         ensures { OnOk result ((n : ℕ) → is_among numbers.new.items n
-            ≡ (is_among numbers.old.items n || (not (is_gone (gone_by self.now) n) && is_begun begun n))) }
+            ≡ (is_among numbers.old.items n || (is_done pick n && (not (is_gone (gone_by self.now) n) && number == n)))) }
     {
-        let Some(number) = begun else {
-            return Ok(());
-        };
-        if self.has_lost(number) {
+        if !does(pick, number) || self.has_lost(number) {
             return Ok(());
         }
         numbers.push(number)?;
         Ok(())
     }
 
-    /// Adds the numbers of a part of the whole that were begun and not sealed, but those that were removed.
-    fn begun_in(&self, part: &Shelf, numbers: &mut Vec<u64>) -> Result<(), AllocError>
+    /// Adds those of these numbers, which were begun and not sealed, that a crash leaves.
+    fn add_each(&self, pick: Pick, begun: &[u64], numbers: &mut Vec<u64>) -> Result<(), AllocError>
         ensures { OnOk result ((n : ℕ) → is_among numbers.new.items n
-            ≡ (is_among numbers.old.items n || (not (is_gone (gone_by self.now) n) && begun_by part.now n))) }
+            ≡ (is_among numbers.old.items n || (is_done pick n && (not (is_gone (gone_by self.now) n) && is_among begun.now n)))) }
     {
-        match part {
-            Shelf::Resting(_) => Ok(()),
-            Shelf::More(made, earlier) => {
-                self.add_begun(made.begun, numbers)?;
-                self.begun_in(earlier, numbers)
+        match begun {
+            [] => Ok(()),
+            [number, rest @ ..] => {
+                self.add_unsealed(pick, *number, numbers)?;
+                self.add_each(pick, rest, numbers)
             }
         }
     }
 
-    /// The numbers that were begun and not sealed, but those that were removed.
-    pub fn begun(&self, alloc: Global) -> Result<Vec<u64>, AllocError>
-        ensures { IfOk result (λ numbers. (n : ℕ) → is_among numbers.items n ≡ (not (is_gone (gone_by self.now) n) && begun_by self.now n)) }
+    /// Adds this number, if it is begun and a crash leaves it.
+    fn add_begun(
+        &self,
+        pick: Pick,
+        begun: Option<u64>,
+        numbers: &mut Vec<u64>,
+    ) -> Result<(), AllocError>
+        ensures { OnOk result ((n : ℕ) → is_among numbers.new.items n
+            ≡ (is_among numbers.old.items n || (is_done pick n && (not (is_gone (gone_by self.now) n) && is_begun begun n)))) }
     {
-        let mut numbers = Vec::new(alloc);
-        self.begun_in(self, &mut numbers)?;
-        Ok(numbers)
+        match begun {
+            Some(number) => self.add_unsealed(pick, number, numbers),
+            None => Ok(()),
+        }
     }
 
-    /// The table files that are there, for a port to read.
-    pub fn files(&self, alloc: Global) -> Result<PortTables, AllocError>
-        ensures { IfOk result (λ tables. files_in tables ≡ files_of self.now) }
+    /// Adds the numbers of a part of the whole that were begun and not sealed and that a crash leaves.
+    fn begun_in(&self, pick: Pick, part: &Shelf, numbers: &mut Vec<u64>) -> Result<(), AllocError>
+        ensures { OnOk result ((n : ℕ) → is_among numbers.new.items n
+            ≡ (is_among numbers.old.items n || (is_done pick n && (not (is_gone (gone_by self.now) n) && begun_by part.now n)))) }
     {
-        let sealed = self.leave(alloc, Pick::New)?;
-        let unsealed = self.begun(alloc)?;
+        match part {
+            Shelf::Resting(tables) => self.add_each(pick, &tables.unsealed, numbers),
+            Shelf::More(made, earlier) => {
+                self.add_begun(pick, made.begun, numbers)?;
+                self.begun_in(pick, earlier, numbers)
+            }
+        }
+    }
+
+    /// The table files that a crash leaves. By `New` these are those that are there.
+    pub fn leave(&self, alloc: Global, pick: Pick) -> Result<PortTables, AllocError>
+        ensures sealed { IfOk result (λ left. (n : ℕ) → (files_in left).sealed n ≡ (files_left pick self.now).sealed n) }
+        ensures unsealed { IfOk result (λ left. (n : ℕ) → (files_in left).is_unsealed n ≡ (files_left pick self.now).is_unsealed n) }
+        ensures there { pick ≡ New → IfOk result (λ left. files_in left ≡ files_of self.now) }
+    {
+        let sealed = self.leave_sealed(alloc, pick)?;
+        let mut unsealed = Vec::new(alloc);
+        self.begun_in(pick, self, &mut unsealed)?;
         Ok(PortTables { sealed, unsealed })
     }
 }

@@ -1,8 +1,10 @@
-ghost use Rattle.std.specs.Prelude.{◌≡◌, ◌≤◌};
+ghost use Rattle.std.specs.Prelude.{◌≡◌, ◌≤◌, ◌+◌};
 ghost use Rattle.disk_model.specs.Images.{Rose};
+ghost use Rattle.disk_model.specs.Tables.{capped};
 
+use crate::Failed;
+use crate::port_tables::PortTables;
 use crate::shelf::Shelf;
-use crate::{Failed, MemTableFile};
 
 /// What devices in memory hold of tables, and what their ports and makers did: the reads, the bytes taken and
 /// the faults.
@@ -15,8 +17,8 @@ pub struct Stock {
 }
 
 impl Stock {
-    /// These tables, to which nothing was done.
-    pub fn resting(tables: Vec<MemTableFile>) -> Stock
+    /// These table files, to which nothing was done.
+    pub fn resting(tables: PortTables) -> Stock
         ensures shelf { result.shelf ≡ Shelf.Resting tables }
         ensures reads { result.reads ≡ 0 }
         ensures taken { result.taken ≡ 0 }
@@ -35,6 +37,7 @@ impl Stock {
         ensures shelf { self.new.shelf ≡ self.old.shelf }
         ensures reads { self.new.reads ≡ self.old.reads }
         ensures taken { self.new.taken ≡ self.old.taken }
+        ensures counted { self.new.faults ≡ capped (self.old.faults + 1) }
         ensures later { self.old.faults ≤ self.new.faults }
         ensures rose { Rose self.old.faults self.new.faults }
     {

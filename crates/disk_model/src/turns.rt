@@ -1,5 +1,6 @@
-ghost use Rattle.std.specs.Prelude.{◌≡◌, ◌≤◌, ◌+◌, ◌%◌, ◌^◌, is_err, IsOk};
+ghost use Rattle.std.specs.Prelude.{◌≡◌, ◌≤◌, ◌+◌, ◌%◌, ◌^◌, is_err, IsOk, OnOk, OnErr};
 ghost use Rattle.disk_model.specs.Images.{Rose, HasCause};
+ghost use Rattle.disk_model.specs.Tables.{capped};
 ghost use Rattle.disk_model.specs.Plans.{IsEmptyPlan, fails_at};
 
 use crate::{FailPlan, Failed};
@@ -28,6 +29,7 @@ impl Turns {
     pub fn fail(&mut self) -> Failed
         ensures plan { self.new.plan ≡ self.old.plan }
         ensures made { self.new.made ≡ self.old.made }
+        ensures counted { self.new.faults ≡ capped (self.old.faults + 1) }
         ensures later { self.old.faults ≤ self.new.faults }
         ensures rose { Rose self.old.faults self.new.faults }
     {
@@ -41,6 +43,8 @@ impl Turns {
         ensures counted { self.new.made ≡ (self.old.made + 1) % 2 ^ 64 }
         ensures exact { is_err result ≡ fails_at self.old.plan self.new.made }
         ensures never { IsEmptyPlan self.old.plan → IsOk result }
+        ensures fault { OnErr result (self.new.faults ≡ capped (self.old.faults + 1)) }
+        ensures unfailed { OnOk result (self.new.faults ≡ self.old.faults) }
         ensures cause { HasCause self.old.faults self.new.faults result }
     {
         self.made = self.made.wrapping_add(1);

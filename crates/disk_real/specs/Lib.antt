@@ -1,3 +1,4 @@
 pub mod Gone
+pub mod Handles
 pub mod Returning
 pub mod Silent

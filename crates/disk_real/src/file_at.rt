@@ -5,6 +5,32 @@ ghost use Rattle.std.specs.Prelude.{◌≡◌, ◌≤◌, length, IfOk, OnOk};
 use std::io;
 use std::io::{ErrorKind, Read, Seek, SeekFrom, Write};
 
+/// Reads once, and again where a signal came between.
+fn read_some<F: Read>(file: &mut F, out: &mut [u8]) -> io::Result<usize>
+    ensures count { IfOk result (λ n. n ≤ length out.old) }
+{
+    for _ in 0..u64::MAX {
+        match file.read(out) {
+            Err(error) if error.kind() == ErrorKind::Interrupted => {}
+            answer => return answer,
+        }
+    }
+    Err(io::Error::from(ErrorKind::Interrupted))
+}
+
+/// Writes once, and again where a signal came between.
+fn write_some<F: Write>(file: &mut F, bytes: &[u8]) -> io::Result<usize>
+    ensures count { IfOk result (λ n. n ≤ length bytes.now) }
+{
+    for _ in 0..u64::MAX {
+        match file.write(bytes) {
+            Err(error) if error.kind() == ErrorKind::Interrupted => {}
+            answer => return answer,
+        }
+    }
+    Err(io::Error::from(ErrorKind::Interrupted))
+}
+
 /// Reads from place `at` on until `out` is full or the file ends, and gives the count of bytes.
 pub fn read_at<F: Read + Seek>(file: &mut F, at: u64, out: &mut [u8]) -> io::Result<usize>
     ensures count { IfOk result (λ n. n ≤ length out.old) }
@@ -12,7 +38,7 @@ pub fn read_at<F: Read + Seek>(file: &mut F, at: u64, out: &mut [u8]) -> io::Res
     file.seek(SeekFrom::Start(at))?;
     let mut count = 0;
     while count < out.len() {
-        let more = file.read(&mut out[count..])?;
+        let more = read_some(file, &mut out[count..])?;
         if more == 0 {
             break;
         }
@@ -34,7 +60,7 @@ pub fn write_counted<F: Write>(file: &mut F, bytes: &[u8], count: &mut usize) ->
     ensures whole { OnOk result (count.new ≡ length bytes.now) }
 {
     while *count < bytes.len() {
-        let more = file.write(&bytes[*count..])?;
+        let more = write_some(file, &bytes[*count..])?;
         if more == 0 {
             return Err(io::Error::from(ErrorKind::WriteZero));
         }

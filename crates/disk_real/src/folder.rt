@@ -2,26 +2,35 @@
 
 ghost use Rattle.std.specs.Prelude.{◌≡◌, IfOk, string_bytes};
 
+use crate::keep_out::KeepOut;
+use crate::shared::Shared;
 use std::alloc::AllocError;
 use std::fmt::Display;
 use std::fs::{File, OpenFile};
 use std::io::ErrorKind;
 use std::rt::Files;
+use std::sync::Arc;
+use std::sync::atomic::Ordering;
 use std::{fs, io};
 
 /// The directory of a store, by its name. One that isn't there reads as an empty one.
+///
+/// While it is open no other program, and no other opening of it, gets in. A directory that isn't there is made with
+/// its first file, and kept from then on. Its own name is stable before the first file is made in it; so where a file
+/// is there, its name needs no sync.
 #[derive(Drop)]
-pub struct Folder<R: Files + AllocGlobal + Clone + Drop> {
+pub struct Folder<R: Files<File: KeepOut> + AllocGlobal + Clone + Drop> {
     pub rt: R,
     name: String,
+    pub shared: Arc<Shared<R::File>>,
 }
 
-impl<R: Files + AllocGlobal + Clone + Drop> Folder<R> {
-    /// The directory of this name.
-    pub fn new(rt: R, name: String) -> Folder<R>
+impl<R: Files<File: KeepOut> + AllocGlobal + Clone + Drop> Folder<R> {
+    /// The directory of this name, with what its objects share.
+    pub fn new(rt: R, name: String, shared: Arc<Shared<R::File>>) -> Folder<R>
         ensures { result.name ≡ name }
     {
-        Folder { rt, name }
+        Folder { rt, name, shared }
     }
 
     /// The same directory.
@@ -31,6 +40,7 @@ impl<R: Files + AllocGlobal + Clone + Drop> Folder<R> {
         Ok(Folder {
             rt: self.rt.clone()?,
             name: self.name.clone()?,
+            shared: Arc::try_clone(&self.shared)?,
         })
     }
 
@@ -46,12 +56,43 @@ impl<R: Files + AllocGlobal + Clone + Drop> Folder<R> {
         format!(in self.rt.alloc(); "{folder}/{name}")
     }
 
-    /// Makes the directory where it isn't there.
-    pub fn make(&self) -> io::Result<()> {
-        match fs::create_dir(&self.rt, self.name.as_str()) {
-            Err(error) if error.kind() != ErrorKind::AlreadyExists => Err(error),
-            _ => Ok(()),
+    /// Keeps others out of the directory, if it is there. The error is `WouldBlock` where another is in it.
+    pub fn keep_others_out(&self) -> io::Result<()> {
+        if self.shared.hold.get().is_some() {
+            return Ok(());
         }
+        let Some(folder) = self.open(".")? else {
+            return Ok(());
+        };
+        folder.keep_out()?;
+        match self.shared.hold.try_set(folder) {
+            Ok(_) => Ok(()),
+            Err(_) => Err(io::Error::from(ErrorKind::WouldBlock)),
+        }
+    }
+
+    /// Makes the directory where it wasn't there, keeps others out of it, and makes its own name stable.
+    ///
+    /// A directory that another program made since this one looked is an error.
+    pub fn make(&self) -> io::Result<()> {
+        if self.shared.hold.get().is_none() {
+            fs::create_dir(&self.rt, self.name.as_str())?;
+            self.keep_others_out()?;
+        }
+        if self.shared.is_named.load(Ordering::SeqCst) {
+            return Ok(());
+        }
+        if self.shared.was_named.swap(true, Ordering::SeqCst) {
+            return Err(io::Error::from(ErrorKind::Other));
+        }
+        self.sync("..")?;
+        self.has_file();
+        Ok(())
+    }
+
+    /// Keeps that the directory's own name is stable, since a file is in it.
+    pub fn has_file(&self) {
+        self.shared.is_named.store(true, Ordering::SeqCst);
     }
 
     /// Takes a file away. One that isn't there is none the less Ok. Gives whether it was there.
@@ -63,17 +104,24 @@ impl<R: Files + AllocGlobal + Clone + Drop> Folder<R> {
         }
     }
 
-    /// Makes the names in the directory stable, and the directory's own name.
+    /// Makes the names in the directory stable.
     pub fn sync_names(&self) -> io::Result<()> {
-        self.sync("..")?;
         self.sync(".")
     }
 
     /// Syncs a directory by its path from this one. Where this one isn't there, there is none to sync.
     fn sync(&self, path: &str) -> io::Result<()> {
+        match self.open(path)? {
+            Some(folder) => folder.sync_all(),
+            None => Ok(()),
+        }
+    }
+
+    /// Opens a directory by its path from this one, or gives `None` where it isn't there.
+    fn open(&self, path: &str) -> io::Result<Option<R::File>> {
         match File::open(&self.rt, self.path_of(path)?) {
-            Ok(folder) => folder.sync_all(),
-            Err(error) if error.kind() == ErrorKind::NotFound => Ok(()),
+            Ok(folder) => Ok(Some(folder)),
+            Err(error) if error.kind() == ErrorKind::NotFound => Ok(None),
             Err(error) => Err(error),
         }
     }

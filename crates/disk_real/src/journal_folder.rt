@@ -4,8 +4,9 @@ ghost use Rattle.std.specs.Prelude.{◌≡◌, ◌≤◌, ◌<◌, ◌+◌, ◌^
 
 use crate::file_at::{read_at, write_at};
 use crate::folder::Folder;
+use crate::keep_out::KeepOut;
 use disk_model::JournalFile;
-use std::fs::{OpenFile, OpenOptions};
+use std::fs::{File, OpenFile, OpenOptions};
 use std::io;
 use std::io::ErrorKind;
 use std::rt::Files;
@@ -24,14 +25,14 @@ struct Opened<F> {
 ///
 /// It keeps the handle of the file last used, so that a write and a sync open nothing.
 #[derive(Drop)]
-pub struct JournalFolder<R: Files + AllocGlobal + Clone + Drop> {
+pub struct JournalFolder<R: Files<File: KeepOut> + AllocGlobal + Clone + Drop> {
     folder: Folder<R>,
     opened: Option<Opened<R::File>>,
     /// Whether no name in the directory has changed since it was synced. Before its first sync nothing is known.
     names_are_stable: bool,
 }
 
-impl<R: Files + AllocGlobal + Clone + Drop> JournalFolder<R> {
+impl<R: Files<File: KeepOut> + AllocGlobal + Clone + Drop> JournalFolder<R> {
     /// The journal in this directory.
     pub fn new(folder: Folder<R>) -> JournalFolder<R>
         ensures { result.folder ≡ folder }
@@ -106,7 +107,10 @@ impl<R: Files + AllocGlobal + Clone + Drop> JournalFolder<R> {
             self.opened = self.open(file)?;
         }
         match &mut self.opened {
-            Some(opened) => Ok(Some(&mut opened.handle)),
+            Some(opened) => {
+                self.folder.has_file();
+                Ok(Some(&mut opened.handle))
+            }
             None => Ok(None),
         }
     }
@@ -118,13 +122,23 @@ impl<R: Files + AllocGlobal + Clone + Drop> JournalFolder<R> {
         }
     }
 
-    fn open(&self, file: JournalFile) -> io::Result<Option<Opened<R::File>>> {
-        let path = self.folder.path_of(file.file_name())?;
+    /// Opens a file that may be written, or one that may only be read.
+    fn open_path(&self, path: &str) -> io::Result<R::File> {
         match OpenOptions::new()
             .read(true)
             .write(true)
             .open(&self.folder.rt, path)
         {
+            Err(error) if error.kind() == ErrorKind::PermissionDenied => {
+                File::open(&self.folder.rt, path)
+            }
+            answer => answer,
+        }
+    }
+
+    fn open(&self, file: JournalFile) -> io::Result<Option<Opened<R::File>>> {
+        let path = self.folder.path_of(file.file_name())?;
+        match self.open_path(path.as_str()) {
             Ok(handle) => Ok(Some(Opened { file, handle })),
             Err(error) if error.kind() == ErrorKind::NotFound => Ok(None),
             Err(error) => Err(error),
@@ -144,7 +158,7 @@ impl<R: Files + AllocGlobal + Clone + Drop> JournalFolder<R> {
         Ok(&mut self.opened.insert(Opened { file, handle }).handle)
     }
 
-    /// Makes the names in the directory stable, and the directory's own name.
+    /// Makes the names in the directory stable.
     ///
     /// An earlier run may have been killed between a change of names and the sync of it, so the first call
     /// syncs whatever this run did.

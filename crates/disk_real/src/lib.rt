@@ -5,28 +5,34 @@
 //! system they make is tested.
 #![tactic(auto)]
 
+#[cfg(test)]
+mod calls_tests;
 mod faults;
 mod file_at;
 mod folder;
 mod journal_folder;
+mod keep_out;
 mod makers;
 mod real_devices;
 mod real_journal;
-#[cfg(test)]
-mod real_journal_tests;
 mod real_maker;
 mod real_port;
 mod real_scripts;
 mod real_sink;
 mod real_sinks;
 mod real_table;
-#[cfg(test)]
-mod real_tables_tests;
 mod returned;
+mod shared;
+mod table_handles;
+#[cfg(test)]
+mod tables_tests;
 mod taken_away;
+#[cfg(test)]
+mod tests;
 #[cfg(test)]
 mod watched;
 
+pub use keep_out::KeepOut;
 pub use real_devices::RealDevices;
 pub use real_scripts::RealScripts;
 pub use real_sinks::RealSinks;

@@ -7,21 +7,27 @@ ghost use Rattle.disk_real.specs.Silent.{nothing_told, no_table_files, silent_jo
 use crate::faults::Faults;
 use crate::folder::Folder;
 use crate::journal_folder::JournalFolder;
+use crate::keep_out::KeepOut;
 use crate::makers::Makers;
 use crate::real_journal::RealJournal;
 use crate::real_maker::RealMaker;
 use crate::real_port::RealPort;
 use crate::real_table::RealTable;
+use crate::shared::Shared;
 use disk_model::{Devices, Directories, Failed};
+use std::alloc::AllocError;
 use std::io::ErrorKind;
 use std::rt::Files;
+use std::sync::{Arc, Wait};
 use std::{io, mem};
 
 /// The devices over a real directory. They tell nothing of what its files hold.
 #[derive(Drop)]
-pub struct RealDevices<R: Files + AllocGlobal + Clone + Drop> {
+pub struct RealDevices<R: Files<File: KeepOut> + Wait + AllocGlobal + Clone + Drop> {
     rt: R,
     directories: Directories,
+    /// What the objects over the chosen directory share.
+    shared: Option<Arc<Shared<R::File>>>,
     is_trusted: bool,
     journal_faults: Faults,
     faults: Faults,
@@ -31,7 +37,7 @@ pub struct RealDevices<R: Files + AllocGlobal + Clone + Drop> {
     table_faults: Faults,
 }
 
-impl<R: Files + AllocGlobal + Clone + Drop> RealDevices<R> {
+impl<R: Files<File: KeepOut> + Wait + AllocGlobal + Clone + Drop> RealDevices<R> {
     ghost use Rattle.disk_real.specs.Gone.{gone_of, gone_by};
     ghost use Rattle.disk_model.specs.Tables.{none_gone};
 
@@ -49,6 +55,7 @@ impl<R: Files + AllocGlobal + Clone + Drop> RealDevices<R> {
         RealDevices {
             rt,
             directories: Directories::none(),
+            shared: None,
             is_trusted: true,
             journal_faults: Faults::none(),
             faults: Faults::none(),
@@ -59,15 +66,25 @@ impl<R: Files + AllocGlobal + Clone + Drop> RealDevices<R> {
         }
     }
 
-    /// The directory that was chosen.
+    /// What the objects over a directory of this name share: where it is the chosen one, what they share already.
+    fn shared_of(&self, name: &str) -> Result<Arc<Shared<R::File>>, AllocError> {
+        match (&self.shared, self.directories.chosen()) {
+            (Some(shared), Some(chosen)) if chosen == name => Arc::try_clone(shared),
+            (_, _) => Ok(Arc::new(self.rt.alloc(), Shared::new(self.rt.alloc()))?),
+        }
+    }
+
+    /// The directory that was chosen, with others kept out of it.
     fn chosen(&self) -> io::Result<Folder<R>>
         ensures { IfOk result (λ folder. Some (string_bytes folder.name) ≡ self.now.directories.chosen) }
     {
-        let Some(name) = self.directories.chosen() else {
+        let (Some(name), Some(shared)) = (self.directories.chosen(), &self.shared) else {
             return Err(io::Error::from(ErrorKind::NotFound));
         };
         let name = String::from_str(self.rt.alloc(), name)?;
-        Ok(Folder::new(self.rt.clone()?, name))
+        let folder = Folder::new(self.rt.clone()?, name, Arc::try_clone(shared)?);
+        folder.keep_others_out()?;
+        Ok(folder)
     }
 
     /// The journal in the directory that was chosen. It opens and makes nothing yet.
@@ -96,7 +113,9 @@ impl<R: Files + AllocGlobal + Clone + Drop> RealDevices<R> {
     }
 }
 
-impl<R: Files<File: Send> + AllocGlobal + Clone + Drop + Send + Sync> Devices for RealDevices<R> {
+impl<
+    R: Files<File: KeepOut + Send + Sync> + Wait + AllocGlobal + Clone + Drop + Send + Sync,
+> Devices for RealDevices<R> {
     ghost use Rattle.disk_real.specs.Gone.{gone_by};
 
     type J = RealJournal<R>;
@@ -132,6 +151,8 @@ impl<R: Files<File: Send> + AllocGlobal + Clone + Drop + Send + Sync> Devices fo
     fn set(&mut self, dir: &str) -> Result<(), Failed> {
         let name = String::from_str(self.rt.alloc(), dir);
         let name = self.faults.told(name)?;
+        let shared = self.shared_of(dir);
+        self.shared = Some(self.faults.told(shared)?);
         self.directories.choose(name);
         Ok(())
     }

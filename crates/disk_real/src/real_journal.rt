@@ -5,6 +5,7 @@ ghost use Rattle.disk_real.specs.Silent.{nothing_told};
 
 use crate::faults::Faults;
 use crate::journal_folder::JournalFolder;
+use crate::keep_out::KeepOut;
 use disk_model::{Failed, Journal, JournalFile};
 use std::rt::Files;
 
@@ -14,13 +15,13 @@ use std::rt::Files;
 /// its first file. After a sync that failed no later one proves anything, since the system counts the pages as
 /// clean: so from then on each `sync` and `drop_file` fails.
 #[derive(Drop)]
-pub struct RealJournal<R: Files + AllocGlobal + Clone + Drop> {
+pub struct RealJournal<R: Files<File: KeepOut> + AllocGlobal + Clone + Drop> {
     folder: JournalFolder<R>,
     pub is_trusted: bool,
     pub faults: Faults,
 }
 
-impl<R: Files + AllocGlobal + Clone + Drop> RealJournal<R> {
+impl<R: Files<File: KeepOut> + AllocGlobal + Clone + Drop> RealJournal<R> {
     /// The journal in this directory, with the faults that were counted before and whether its syncs are trusted.
     pub fn new(folder: JournalFolder<R>, is_trusted: bool, faults: Faults) -> RealJournal<R>
         ensures folder { result.folder ≡ folder }
@@ -35,8 +36,10 @@ impl<R: Files + AllocGlobal + Clone + Drop> RealJournal<R> {
     }
 }
 
-impl<R: Files + AllocGlobal + Clone + Drop> Journal for RealJournal<R> {
+impl<R: Files<File: KeepOut> + AllocGlobal + Clone + Drop> Journal for RealJournal<R> {
     ghost tells = { false };
+
+    ghost is_atomic = { false };
 
     ghost seen = { λ _ _. None };
 

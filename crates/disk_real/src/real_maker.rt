@@ -6,6 +6,7 @@ ghost use Rattle.disk_model.specs.Tables.{none_gone};
 use crate::faults::Faults;
 use crate::file_at::write_counted;
 use crate::folder::Folder;
+use crate::keep_out::KeepOut;
 use crate::makers::Makers;
 use crate::real_table::RealTable;
 use crate::taken_away::TakenAway;
@@ -16,6 +17,7 @@ use std::fs::{OpenFile, OpenOptions};
 use std::io;
 use std::io::{ErrorKind, Write};
 use std::rt::Files;
+use std::sync::Wait;
 
 /// A table's file that isn't sealed yet. After a sync that failed no later one of it proves anything.
 #[derive(Drop)]
@@ -27,7 +29,7 @@ pub struct Begun<F> {
 
 /// The maker over real files, `table-S.C` in one directory. It tells nothing of what the files hold.
 #[derive(Drop)]
-pub struct RealMaker<R: Files + AllocGlobal + Clone + Drop> {
+pub struct RealMaker<R: Files<File: KeepOut> + Wait + AllocGlobal + Clone + Drop> {
     folder: Folder<R>,
     begun: Option<Begun<R::File>>,
     pub taken: u64,
@@ -39,7 +41,7 @@ pub struct RealMaker<R: Files + AllocGlobal + Clone + Drop> {
 }
 
 /// Takes an earlier file away that wasn't sealed, and makes that of the table of this number.
-fn begin_file<R: Files + AllocGlobal + Clone + Drop>(
+fn begin_file<R: Files<File: KeepOut> + Wait + AllocGlobal + Clone + Drop>(
     folder: &Folder<R>,
     earlier: Option<Begun<R::File>>,
     number: u64,
@@ -73,7 +75,7 @@ fn write_file<F: Write>(begun: &mut Begun<F>, bytes: &[u8], count: &mut usize) -
 }
 
 /// Makes the file and its name stable.
-fn seal_file<R: Files + AllocGlobal + Clone + Drop>(
+fn seal_file<R: Files<File: KeepOut> + Wait + AllocGlobal + Clone + Drop>(
     folder: &Folder<R>,
     begun: &mut Begun<R::File>,
 ) -> io::Result<RealTable<R>>
@@ -91,7 +93,7 @@ fn seal_file<R: Files + AllocGlobal + Clone + Drop>(
     Ok(RealTable::new(folder, begun.number)?)
 }
 
-impl<R: Files + AllocGlobal + Clone + Drop> RealMaker<R> {
+impl<R: Files<File: KeepOut> + Wait + AllocGlobal + Clone + Drop> RealMaker<R> {
     ghost use Rattle.disk_real.specs.Gone.{gone_of};
 
     /// A maker of tables in this directory that made nothing yet.
@@ -113,7 +115,7 @@ impl<R: Files + AllocGlobal + Clone + Drop> RealMaker<R> {
     }
 }
 
-impl<R: Files + AllocGlobal + Clone + Drop> Maker for RealMaker<R> {
+impl<R: Files<File: KeepOut> + Wait + AllocGlobal + Clone + Drop> Maker for RealMaker<R> {
     ghost use Rattle.disk_real.specs.Gone.{gone_of};
 
     type File = RealTable<R>;
@@ -164,8 +166,7 @@ impl<R: Files + AllocGlobal + Clone + Drop> Maker for RealMaker<R> {
 
     fn retire(&mut self, file: &RealTable<R>) -> Result<(), Failed> {
         self.faults.told(self.away.retired.push(file.number))?;
-        file.retire();
-        Ok(())
+        self.faults.told(file.retire())
     }
 
     fn remove(&mut self, number: u64) -> Result<(), Failed> {

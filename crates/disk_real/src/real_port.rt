@@ -4,12 +4,14 @@ ghost use Rattle.std.specs.Prelude.{◌≡◌, ◌<◌, ◌^◌, None, false, If
 
 use crate::faults::Faults;
 use crate::folder::Folder;
+use crate::keep_out::KeepOut;
 use crate::real_table::RealTable;
 use disk_model::{Failed, ListFault, Port, ascending};
 use peb_base::{FileName, Memory};
 use std::alloc::{AllocError, Global};
 use std::io::ErrorKind;
 use std::rt::Files;
+use std::sync::Wait;
 use std::{fs, io};
 
 /// The tables of one session have counts below this one.
@@ -17,7 +19,7 @@ const COUNTS: u64 = 1 << 40;
 
 /// The port over real files, `table-S.C` in one directory. It tells nothing of what the files hold.
 #[derive(Drop)]
-pub struct RealPort<R: Files + AllocGlobal + Clone + Drop> {
+pub struct RealPort<R: Files<File: KeepOut> + Wait + AllocGlobal + Clone + Drop> {
     folder: Folder<R>,
     pub reads: u64,
     pub faults: Faults,
@@ -38,7 +40,7 @@ fn is_name_of(alloc: Global, name: &str, number: u64) -> Result<bool, AllocError
     Ok(format!(in alloc; "{written}")?.as_str() == name)
 }
 
-impl<R: Files + AllocGlobal + Clone + Drop> RealPort<R> {
+impl<R: Files<File: KeepOut> + Wait + AllocGlobal + Clone + Drop> RealPort<R> {
     /// A port on the tables in this directory, with counts of 0.
     pub fn new(folder: Folder<R>) -> RealPort<R>
         ensures faults { result.faults.count ≡ 0 }
@@ -54,12 +56,23 @@ impl<R: Files + AllocGlobal + Clone + Drop> RealPort<R> {
     fn look_for(&self, number: u64) -> io::Result<Option<RealTable<R>>>
         ensures { IfOk result (λ found. IfSome found (λ table. table.number ≡ number)) }
     {
-        let path = self.folder.path_of(FileName::Table(number))?;
-        match fs::metadata(&self.folder.rt, path) {
-            Ok(_) => Ok(Some(RealTable::new(&self.folder, number)?)),
+        // The handle comes first, so that the file stays from when it was looked for.
+        let table = RealTable::new(&self.folder, number)?;
+        match table.look() {
+            Ok(()) => Ok(Some(table)),
             Err(error) if error.kind() == ErrorKind::NotFound => Ok(None),
             Err(error) => Err(error),
         }
+    }
+
+    /// Adds the number that this name tells, if it is that of a table's file.
+    fn add_number(&self, name: &str, numbers: &mut Vec<u64>) -> io::Result<()> {
+        if let Some(number) = number_of(name) {
+            if is_name_of(self.folder.rt.alloc(), name, number)? {
+                numbers.push(number)?;
+            }
+        }
+        Ok(())
     }
 
     /// The numbers of all files in the directory that are named as a table's.
@@ -71,19 +84,18 @@ impl<R: Files + AllocGlobal + Clone + Drop> RealPort<R> {
             Err(error) => return Err(error),
         };
         for entry in entries {
-            let entry = entry?;
-            let name = entry.file_name();
-            if let Some(number) = number_of(name) {
-                if is_name_of(self.folder.rt.alloc(), name, number)? {
-                    numbers.push(number)?;
-                }
+            match entry {
+                Ok(entry) => self.add_number(entry.file_name(), &mut numbers)?,
+                // A name that isn't text is no table's.
+                Err(error) if error.kind() == ErrorKind::InvalidFilename => {}
+                Err(error) => return Err(error),
             }
         }
         Ok(numbers)
     }
 }
 
-impl<R: Files + AllocGlobal + Clone + Drop> Port for RealPort<R> {
+impl<R: Files<File: KeepOut> + Wait + AllocGlobal + Clone + Drop> Port for RealPort<R> {
     ghost use Rattle.disk_real.specs.Silent.{no_table_files};
 
     type File = RealTable<R>;

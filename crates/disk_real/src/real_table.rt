@@ -4,41 +4,53 @@ ghost use Rattle.std.specs.Prelude.{◌≡◌, ◌≤◌, [], false, length, IfO
 
 use crate::file_at::read_at;
 use crate::folder::Folder;
+use crate::keep_out::KeepOut;
+use crate::shared::Shared;
 use disk_model::TableHandle;
 use peb_base::FileName;
 use std::alloc::AllocError;
 use std::fs::File;
 use std::rt::Files;
-use std::sync::atomic::{AtomicBool, Ordering};
+use std::sync::{Arc, Wait};
 use std::{fs, io};
 
 /// A handle of a table's file, `table-S.C`. It tells nothing of what the file holds.
 ///
-/// It keeps the file's path alone, so that no place in an open file is shared between threads. When it is dropped,
-/// it takes the file of a retired table away.
-pub struct RealTable<R: Files + Drop> {
+/// It keeps the file's path alone, so that no place in an open file is shared between threads. All handles of a table
+/// share whether it is retired: the last one that is dropped takes the file of a retired table away.
+pub struct RealTable<R: Files<File: KeepOut> + Wait + Drop> {
     rt: R,
     path: String,
     pub number: u64,
-    is_retired: AtomicBool,
+    shared: Arc<Shared<R::File>>,
 }
 
-impl<R: Files + AllocGlobal + Clone + Drop> RealTable<R> {
+impl<R: Files<File: KeepOut> + Wait + AllocGlobal + Clone + Drop> RealTable<R> {
     /// The table of this number in this directory.
     pub fn new(folder: &Folder<R>, number: u64) -> Result<RealTable<R>, AllocError>
         ensures { IfOk result (λ table. table.number ≡ number) }
     {
+        let rt = folder.rt.clone()?;
+        let path = folder.path_of(FileName::Table(number))?;
+        let shared = Arc::try_clone(&folder.shared)?;
+        shared.tables.lock(&rt).add(number)?;
         Ok(RealTable {
-            rt: folder.rt.clone()?,
-            path: folder.path_of(FileName::Table(number))?,
+            rt,
+            path,
             number,
-            is_retired: AtomicBool::new(false),
+            shared,
         })
     }
 
-    /// Lets the file go with this handle.
-    pub fn retire(&self) {
-        self.is_retired.store(true, Ordering::SeqCst);
+    /// Lets the file go with the last handle of the table.
+    pub fn retire(&self) -> Result<(), AllocError> {
+        self.shared.tables.lock(&self.rt).retire(self.number)
+    }
+
+    /// Looks whether the file is there. The error is `NotFound` where it isn't.
+    pub fn look(&self) -> io::Result<()> {
+        fs::metadata(&self.rt, self.path.as_str())?;
+        Ok(())
     }
 
     /// Reads from place `at` on until `out` is full or the file ends.
@@ -50,23 +62,27 @@ impl<R: Files + AllocGlobal + Clone + Drop> RealTable<R> {
     }
 }
 
-impl<R: Files + Drop> Drop for RealTable<R> {
+impl<R: Files<File: KeepOut> + Wait + Drop> Drop for RealTable<R> {
     fn drop(self) {
         let RealTable {
             rt,
             path,
-            number: _,
-            is_retired,
+            number,
+            shared,
         } = self;
-        if is_retired.load(Ordering::SeqCst) {
+        // The lock is kept meanwhile, so that a handle that is made at this time is counted before or finds no file.
+        let mut tables = shared.tables.lock(&rt);
+        if tables.let_go(number) {
             // A file that stays is removed by the next opening.
             let _ = fs::remove_file(&rt, path);
         }
     }
 }
 
-impl<R: Files + Drop> TableHandle for RealTable<R> {
+impl<R: Files<File: KeepOut> + Wait + Drop> TableHandle for RealTable<R> {
     ghost tells = { false };
+
+    ghost is_atomic = { false };
 
     ghost number = { λ table. table.number };
 

@@ -1,12 +1,14 @@
 //! A file system for tests, which counts the syncs that it is asked for and can fail them.
 
+use crate::keep_out::KeepOut;
 use std::alloc::{Allocator, Global};
 use std::cell::Cell;
 use std::fs::{Metadata, OpenFile, OpenOptions};
 use std::io;
-use std::io::{Empty, ErrorKind, Read, Seek, SeekFrom, Write};
+use std::io::{ErrorKind, Read, Seek, SeekFrom, Write};
 use std::rc::Rc;
 use std::rt::Files;
+use std::sync::Wait;
 
 /// What a file system of one directory and one file in it has seen.
 #[derive(Drop)]
@@ -15,7 +17,10 @@ pub struct Seen {
     pub has_file: Cell<bool>,
     pub file_syncs: Cell<u8>,
     pub folder_syncs: Cell<u8>,
+    pub parent_syncs: Cell<u8>,
     pub fails_syncs: Cell<bool>,
+    /// Whether another program is in the directory.
+    pub is_taken: Cell<bool>,
 }
 
 impl Seen {
@@ -26,24 +31,31 @@ impl Seen {
             has_file: Cell::new(false),
             file_syncs: Cell::new(0),
             folder_syncs: Cell::new(0),
+            parent_syncs: Cell::new(0),
             fails_syncs: Cell::new(false),
+            is_taken: Cell::new(false),
         }
     }
 
-    /// The syncs of the file, and those of directories.
-    pub fn syncs(&self) -> (u8, u8) {
-        (self.file_syncs.get(), self.folder_syncs.get())
+    /// The syncs of the file, of its directory, and of the directory's parent.
+    pub fn syncs(&self) -> (u8, u8, u8) {
+        (
+            self.file_syncs.get(),
+            self.folder_syncs.get(),
+            self.parent_syncs.get(),
+        )
     }
 }
 
 /// The file system, as a runtime.
 #[derive(Clone, Drop)]
-pub struct Watched {
+pub struct Watched<W> {
+    pub rt: W,
     pub alloc: Global,
     pub seen: Rc<Seen>,
 }
 
-impl Alloc for Watched {
+impl<W> Alloc for Watched<W> {
     type A = Global;
 
     fn alloc(&self) -> Global {
@@ -51,11 +63,46 @@ impl Alloc for Watched {
     }
 }
 
-/// The file, or a directory that was opened to be synced.
+impl<W: Wait> Wait for Watched<W> {}
+
+/// What was opened.
+#[derive(Clone, Copy, PartialEq, Eq)]
+pub enum Kind {
+    File,
+    Folder,
+    Parent,
+}
+
+/// The file, or a directory.
 #[derive(Drop)]
 pub struct WatchedFile {
     seen: Rc<Seen>,
-    is_folder: bool,
+    kind: Kind,
+}
+
+impl KeepOut for WatchedFile {
+    fn keep_out(&self) -> io::Result<()> {
+        if self.seen.is_taken.get() {
+            return Err(io::Error::from(ErrorKind::WouldBlock));
+        }
+        Ok(())
+    }
+}
+
+/// Names that are read at once, each ended by a NUL.
+#[derive(Drop)]
+pub struct Names {
+    left: &'static [u8],
+}
+
+impl Read for Names {
+    fn read(&mut self, buf: &mut [u8]) -> io::Result<usize> {
+        let count = self.left.len().min(buf.len());
+        let (front, rest) = self.left.split_at(count);
+        buf[..count].copy_from_slice(front);
+        self.left = rest;
+        Ok(count)
+    }
 }
 
 impl Read for WatchedFile {
@@ -93,10 +140,10 @@ impl OpenFile for WatchedFile {
         if self.seen.fails_syncs.get() {
             return Err(io::Error::from(ErrorKind::Other));
         }
-        let count = if self.is_folder {
-            &self.seen.folder_syncs
-        } else {
-            &self.seen.file_syncs
+        let count = match self.kind {
+            Kind::File => &self.seen.file_syncs,
+            Kind::Folder => &self.seen.folder_syncs,
+            Kind::Parent => &self.seen.parent_syncs,
         };
         count.set(count.get().saturating_add(1));
         Ok(())
@@ -119,21 +166,31 @@ fn unsupported<T>() -> io::Result<T> {
     Err(io::Error::from(ErrorKind::Unsupported))
 }
 
-impl Files for Watched {
+fn kind_of(path: &str) -> Kind {
+    if path.ends_with("/..") {
+        Kind::Parent
+    } else if path.ends_with("/.") {
+        Kind::Folder
+    } else {
+        Kind::File
+    }
+}
+
+impl<W> Files for Watched<W> {
     type File = WatchedFile;
 
-    type Dir = Empty;
+    type Dir = Names;
 
     fn open_file(&self, how: &OpenOptions, path: &str) -> io::Result<WatchedFile> {
         is_there(self.seen.has_folder.get())?;
-        let is_folder = path.ends_with('.');
+        let kind = kind_of(path);
         if how.asks_create_new() {
             self.seen.has_file.set(true);
         }
-        is_there(is_folder || self.seen.has_file.get())?;
+        is_there(kind != Kind::File || self.seen.has_file.get())?;
         Ok(WatchedFile {
             seen: self.seen.clone()?,
-            is_folder,
+            kind,
         })
     }
 
@@ -148,8 +205,10 @@ impl Files for Watched {
         is_there(self.seen.has_file.replace(false))
     }
 
-    fn open_dir(&self, _path: &str) -> io::Result<Empty> {
-        unsupported()
+    fn open_dir(&self, _path: &str) -> io::Result<Names> {
+        Ok(Names {
+            left: b"log-1\0table-1.2\0table-\xff\0table-1.03\0table-x.1\0table-1.1\0",
+        })
     }
 
     fn metadata(&self, _path: &str) -> io::Result<Metadata> {

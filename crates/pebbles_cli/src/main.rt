@@ -31,22 +31,26 @@ fn command_words(rt: &HostRuntime) -> io::Result<Vec<String>> {
     Ok(env::args(rt)?.skip(1).collect(rt.alloc())?)
 }
 
-/// Runs the words over real devices.
-fn run_on_host(rt: &HostRuntime) -> Cause {
-    let words = match command_words(rt) {
-        Ok(words) => words,
-        Err(error) if error.kind() == ErrorKind::OutOfMemory => return Cause::Memory,
+/// The cause of words that can't be read.
+fn words_cause(error: io::Error) -> Cause {
+    match error.kind() {
+        ErrorKind::OutOfMemory => Cause::Memory,
         // A word that isn't text stands in no list of command words.
-        Err(_) => return Cause::Usage,
-    };
-    let devices = RealDevices::new(*rt);
-    let mut scripts = RealScripts::new(*rt);
-    let mut sinks = RealSinks::new(*rt);
-    top_plain(rt.alloc(), &words, devices, &mut scripts, &mut sinks).cause
+        _ => Cause::Usage,
+    }
 }
 
+/// Runs the words over real devices.
 fn main(rt: HostRuntime) -> ExitCode {
-    let cause = run_on_host(&rt);
+    let cause = match command_words(&rt) {
+        Ok(words) => {
+            let devices = RealDevices::new(rt);
+            let mut scripts = RealScripts::new(rt);
+            let mut sinks = RealSinks::new(rt);
+            top_plain(rt.alloc(), &words, devices, &mut scripts, &mut sinks).cause
+        }
+        Err(error) => words_cause(error),
+    };
     if cause != Cause::Done {
         // Where the standard error takes nothing, the status alone tells the cause.
         let _ = rt.eprintln(cause);
