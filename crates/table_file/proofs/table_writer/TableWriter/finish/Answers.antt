@@ -48,7 +48,7 @@ returns-in-Ok-seal_table-clause-table g c = λ es pushed some.
       sums = pushed.keeps.sums;
     } in
     let made = c.in-Ok-seal_table.ensures.table es (with_last closed block) gathers (λ told. c.in-Ok.ensures.written told closed (pushed.keeps.blocks told)) in
-    subst (λ b. IsTableOf g.M.File.TableHandle.tells c.args.self.now.number c.args.self.now.level (g.M.File.TableHandle.number c.in-Ok-seal_table.table.file) (g.M.File.TableHandle.bytes c.in-Ok-seal_table.table.file) c.in-Ok-seal_table.table.row c.in-Ok-seal_table.table.items.items c.in-Ok-seal_table.table.filter (with_last closed b) es) pushed.keeps.open_is made
+    subst (λ b. IsTableOf g.M.File.TableHandle c.in-Ok-seal_table.table (with_last closed b) es) pushed.keeps.open_is made
 
 pub returns-in-Ok-seal_table-clause-limit : goal.returns-in-Ok-seal_table-clause-limit
 returns-in-Ok-seal_table-clause-limit g c = λ es pushed some.
