@@ -5,9 +5,8 @@ ghost use Rattle.std.specs.List.{AllByRecursion, AllZip};
 ghost use Rattle.guard_level.specs.TableLists.{below, above, IsAbsent, TakesFrom, AreShared};
 ghost use Rattle.guard_level.specs.Guards.{Ascend, guard_of, is_guard, tables_of, LiesIn, with_table, cut_at, IsUncut, Takes, IsCopy};
 
-use crate::order::is_below;
 use crate::tables::Tables;
-use peb_base::{Key, Memory, TableLike};
+use peb_base::{Key, Memory, TableLike, is_below};
 use std::alloc::Global;
 use std::marker::Model;
 

@@ -6,3 +6,4 @@ pub mod Moves
 pub mod Pages
 pub mod Seeking
 pub mod Standings
+pub mod Walked

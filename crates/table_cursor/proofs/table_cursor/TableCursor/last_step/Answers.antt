@@ -11,13 +11,13 @@ pub returns-then-blocks-eq0-clause-leads : goal.returns-then-blocks-eq0-clause-l
 returns-then-blocks-eq0-clause-leads g c = λ es holds.
     let blocks = blocks_of holds.full es in
     let whole = c.law_blocks.ensures.joined holds.full es holds.least holds.most holds.table.sorted in
-    let none : length blocks ≡ 0 = sym (length-items 0 blocks) ∙ sym (ap length holds.table.items_are) ∙ sym (ap (λ t. length t.items.items) c.deref.ensures) ∙ sym c.blocks-blocks.ensures ∙ c.if-blocks-eq0.true in
+    let none : length blocks ≡ 0 = sym (length-items 0 blocks) ∙ sym (ap length holds.table.items_are) ∙ sym (ap (λ t. length t.items) c.deref.ensures) ∙ sym c.blocks-blocks.ensures ∙ c.if-blocks-eq0.true in
     absurd (omega (arith, holds.table.row_is.some, ap length (sym whole ∙ none_joined blocks none)))
 
 pub returns-clause-leads : goal.returns-clause-leads
 returns-clause-leads g c = λ es holds.
     let blocks = blocks_of holds.full es in
     let whole = c.law_blocks.ensures.joined holds.full es holds.least holds.most holds.table.sorted in
-    let count : c.blocks-blocks.result ≡ length blocks = c.blocks-blocks.ensures ∙ ap (λ t. length t.items.items) c.deref.ensures ∙ ap length holds.table.items_are ∙ length-items 0 blocks in
+    let count : c.blocks-blocks.result ≡ length blocks = c.blocks-blocks.ensures ∙ ap (λ t. length t.items) c.deref.ensures ∙ ap length holds.table.items_are ∙ length-items 0 blocks in
     let any : 0 < length blocks = omega (arith, c.if-blocks-eq0.false, count) in
     ap (λ n. where_block (n - 1) blocks (entries_before (suc (n - 1)) blocks - 1)) count ∙ last_block blocks es whole (omega (arith, holds.table.row_is.some)) any
