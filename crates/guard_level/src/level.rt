@@ -192,16 +192,9 @@ fn copy_keys(alloc: Global, keys: &[Key]) -> Result<Vec<Key>, Memory>
 {
     let mut copies = Vec::with_capacity(alloc, keys.len())?;
     for key in keys {
-        copies.push(copy_key(alloc, key)?)?;
+        copies.push(key.copy(alloc)?)?;
     }
     Ok(copies)
-}
-
-/// A copy of a key.
-fn copy_key(alloc: Global, key: &Key) -> Result<Key, Memory>
-    ensures { IfOk result (λ copy. copy ≡ key.now) }
-{
-    Key::new(alloc, key.bytes()).map_err(|_| Memory)
 }
 
 /// Further handles to the tables of each guard.

@@ -40,16 +40,15 @@ pub struct TableCursor<P: Port> {
 }
 
 impl<P: Port> TableCursor<P> {
-    ghost use Rattle.table_cursor.specs.Standing.{StandsAt};
+    ghost use Rattle.table_cursor.specs.Views.{table_of, port_of, page_of, index_of, refused_of, shown_by, spot_of, StandsIn};
 
     /// A cursor over the entries of a table, at no place. It makes no read yet, and no call of it takes memory.
     pub fn open(table: Arc<Table<P::File>, Global>, port: P, loan: Loan) -> TableCursor<P>
-        ensures stands { (es : List Entry) → IsTrue P.File.tells → Holds P.File.TableHandle (arc_value table) es
-            → StandsAt P.File.TableHandle (arc_value result.table) result.page result.index es None }
-        ensures table { result.table ≡ table }
-        ensures port { result.port ≡ port }
-        ensures nowhere { result.page.entries ≡ [] }
-        ensures refused { result.refused ≡ None }
+        ensures stands { (es : List Entry) → IsTrue P.File.tells → Holds P.File.TableHandle (arc_value table) es → StandsIn result es None }
+        ensures table { table_of result ≡ arc_value table }
+        ensures port { port_of result ≡ port }
+        ensures nowhere { (spot_of result ≡ None) × (shown_by result ≡ None) }
+        ensures refused { refused_of result ≡ None }
     {
         law_blocks();
         TableCursor {
@@ -63,8 +62,9 @@ impl<P: Port> TableCursor<P> {
 
     /// The place in the file, in bytes, of the block that has the entry at which the cursor stands; None exactly at no place.
     pub fn place(&self) -> Option<u64>
-        ensures none { IsNone result ↔ (length self.now.page.entries ≡ 0) }
-        ensures block { IfSome result (λ at. (at ≡ self.now.page.at) × ShowsOf P.File.TableHandle (arc_value self.now.table) self.now.index self.now.page) }
+        ensures none { IsNone result ↔ (spot_of self.now ≡ None) }
+        ensures block { IfSome result (λ at. (at ≡ (page_of self.now).at)
+            × ShowsOf P.File.TableHandle (table_of self.now) (index_of self.now) (page_of self.now)) }
     {
         if self.page.is_empty() {
             return None;
@@ -74,8 +74,8 @@ impl<P: Port> TableCursor<P> {
 
     /// Gives the table, the port and the loan back.
     pub fn close(self) -> (Arc<Table<P::File>, Global>, P, Loan)
-        ensures table { result.0 ≡ self.table }
-        ensures port { result.1 ≡ self.port }
+        ensures table { arc_value result.0 ≡ table_of self }
+        ensures port { result.1 ≡ port_of self }
     {
         let TableCursor {
             table,
@@ -140,11 +140,7 @@ impl<P: Port> TableCursor<P> {
         ensures lands { (now : Reading) → spot_after result (arc_value self.now.table).items self.now.index now ≡ last_spot (arc_value self.now.table).items (length (arc_value self.now.table).items - 1) now }
     {
         law_blocks();
-        let blocks = self.table.blocks();
-        if blocks == 0 {
-            return Step::Nowhere;
-        }
-        Step::Last(blocks - 1)
+        Step::Last(self.table.blocks() - 1)
     }
 
     /// Shows the first entry of the block at an index, or nothing where there is none.
@@ -256,52 +252,50 @@ impl<P: Port> TableCursor<P> {
 }
 
 impl<P: Port> Cursor for TableCursor<P> {
-    ghost use Rattle.std.specs.Prelude.{◌≡◌, ◌<◌, ◌+◌, ◌-◌, ◌++◌, ◌∷◌, [], ℕ, List, Option, Some, None, IsOk, IfSome, OnOk, OnErr, Err, length, slice_get, option_map};
+    ghost use Rattle.std.specs.Prelude.{◌≡◌, ◌<◌, ◌+◌, ◌-◌, ◌++◌, ◌∷◌, [], ℕ, List, Option, Some, None, IsOk, IfSome, OnOk, OnErr, Err, length, option_map};
     ghost use Rattle.std.specs.Arc.{arc_value};
     ghost use Rattle.peb_base.specs.Cursors.{place_from, first_place, last_place, next_place, previous_place, LeadsTo, CountsFaults, IfDamage, refusal};
     ghost use Rattle.peb_base.specs.EntryRefs.{entry_of};
     ghost use Rattle.peb_base.specs.declared.entry.Entry.{Entry};
     ghost use Rattle.peb_base.specs.declared.read_fault.ReadFault.TheVariants as faults;
     ghost use Rattle.table_file.specs.Ports.{ReadsAtMost};
-    ghost use Rattle.table_cursor.specs.Agreeing.{IsOfBlock, IsDamageOf};
-    ghost use Rattle.table_cursor.specs.Keeping.{Keeps, keeps_self, keeps_on};
-    ghost use Rattle.table_cursor.specs.Spots.{spot, first_spot, last_spot, next_spot, previous_spot, found_spot};
-    ghost use Rattle.table_cursor.specs.Standing.{StandsAt};
+    ghost use Rattle.table_cursor.specs.Spots.{first_spot, last_spot, next_spot, previous_spot, found_spot};
     ghost use Rattle.table_cursor.specs.StandingLaws.{stands_among};
-    ghost use Rattle.table_cursor.specs.Walking.{Walks, most_steps, steps_ahead, steps_back};
+    ghost use Rattle.table_cursor.specs.Views.{table_of, port_of, page_of, index_of, refused_of, blocks_in, shown_by, spot_of, ahead_of, back_of, size_of, StandsIn, WalksIn, DamageIn, IsOfTable, Keeps, keeps_self, keeps_on};
+    ghost use Rattle.table_cursor.specs.Walking.{most_steps};
     ghost use Rattle.table_cursor.specs.WalkLaws.{entry_within, walk_ascends, steps_bounded};
 
-    ghost stands = { λ cursor es place. StandsAt P.File.TableHandle (arc_value cursor.table) cursor.page cursor.index es place };
+    ghost stands = { λ cursor es place. StandsIn cursor es place };
 
-    ghost shows = { λ cursor. slice_get cursor.page.entries cursor.page.place };
+    ghost shows = { λ cursor. shown_by cursor };
 
-    ghost walks = { λ cursor es. Walks P.File.TableHandle (arc_value cursor.table) cursor.index cursor.page cursor.refused es };
+    ghost walks = { λ cursor es. WalksIn cursor es };
 
-    ghost ahead = { λ cursor. steps_ahead (length (arc_value cursor.table).items) cursor.index cursor.page };
+    ghost ahead = { λ cursor. ahead_of cursor };
 
-    ghost back = { λ cursor. steps_back cursor.index cursor.page };
+    ghost back = { λ cursor. back_of cursor };
 
-    ghost size = { λ cursor. most_steps (length (arc_value cursor.table).items) };
+    ghost size = { λ cursor. size_of cursor };
 
-    ghost keeps = { λ a b. Keeps P.Port a.table b.table a.port b.port };
+    ghost keeps = { λ a b. Keeps a b };
 
-    ghost damaged = { λ cursor table at. IsDamageOf P.File.TableHandle (arc_value cursor.table) table at };
+    ghost damaged = { λ cursor table at. DamageIn cursor table at };
 
-    ghost faults = { λ cursor. P.faults cursor.port };
+    ghost faults = { λ cursor. P.faults (port_of cursor) };
 
-    ghost refused = { λ cursor. cursor.refused };
+    ghost refused = { λ cursor. refused_of cursor };
 
-    ghost among = { λ cursor es place stands. stands_among P.File.TableHandle (arc_value cursor.table) cursor.page cursor.index es place stands (λ some. (cursor.shown some).inside) };
+    ghost among = { λ cursor es place stands. stands_among P.File.TableHandle (table_of cursor) (page_of cursor) (index_of cursor) es place stands (λ some. (cursor.shown some).inside) };
 
-    ghost within = { λ cursor e there. entry_within [] 0 cursor.page.entries cursor.page.place e cursor.sorted there };
+    ghost within = { λ cursor e there. entry_within [] 0 (page_of cursor).entries (page_of cursor).place e cursor.sorted there };
 
-    ghost ascends = { λ cursor es e walks there. walk_ascends P.File.TableHandle (arc_value cursor.table) cursor.index cursor.page es e cursor.shown cursor.sorted walks.over there };
+    ghost ascends = { λ cursor es e walks there. walk_ascends P.File.TableHandle (table_of cursor) (index_of cursor) (page_of cursor) es e cursor.shown cursor.sorted walks.over there };
 
-    ghost bounded = { λ cursor. steps_bounded P.File.TableHandle (arc_value cursor.table) cursor.index cursor.page cursor.shown };
+    ghost bounded = { λ cursor. steps_bounded P.File.TableHandle (table_of cursor) (index_of cursor) (page_of cursor) cursor.shown };
 
-    ghost kept = { λ cursor. keeps_self P.Port cursor.table cursor.port };
+    ghost kept = { λ cursor. keeps_self cursor };
 
-    ghost kept_on = { λ a b c x y. keeps_on P.Port x y };
+    ghost kept_on = { λ a b c x y. keeps_on a b c x y };
 
     ghost kept_size = { λ a b x i. most_steps (length (arc_value (x.table i)).items) };
 
@@ -311,19 +305,19 @@ impl<P: Port> Cursor for TableCursor<P> {
     fn seek(&mut self, key: &[u8], number: Number) -> Result<(), ReadFault>
         // what it gives
         ensures goes { (es : List Entry) (place : Option ℕ)
-            → StandsAt P.File.TableHandle (arc_value self.old.table) self.old.page self.old.index es place
-            → LeadsTo (StandsAt P.File.TableHandle (arc_value self.new.table) self.new.page self.new.index es) (place_from key.now number es) result }
-        ensures lands { OnOk result (spot self.new.index self.new.page ≡ found_spot (arc_value self.old.table).items key.now number self.new.page) }
+            → StandsIn self.old es place
+            → LeadsTo (StandsIn self.new es) (place_from key.now number es) result }
+        ensures lands { OnOk result (spot_of self.new ≡ found_spot (table_of self.old).items key.now number (page_of self.new)) }
         // what it leaves
-        ensures nothing { OnErr result (slice_get self.new.page.entries self.new.page.place ≡ None) }
-        ensures refused { self.new.refused ≡ refusal result }
+        ensures nothing { OnErr result (shown_by self.new ≡ None) }
+        ensures refused { refused_of self.new ≡ refusal result }
         // when it fails
-        ensures counts { CountsFaults (P.faults self.old.port) (P.faults self.new.port) result }
-        ensures damage { IfDamage result (IsDamageOf P.File.TableHandle (arc_value self.new.table)) }
-        ensures sure { P.steady self.old.port → result ≡ Err faults.Fault → ⊥ }
+        ensures counts { CountsFaults (P.faults (port_of self.old)) (P.faults (port_of self.new)) result }
+        ensures damage { IfDamage result (DamageIn self.new) }
+        ensures sure { P.steady (port_of self.old) → result ≡ Err faults.Fault → ⊥ }
         // what stays
-        ensures port { ReadsAtMost P.Port 1 self.old.port self.new.port (result ≡ Err faults.Fault) }
-        ensures keeps { Keeps P.Port self.old.table self.new.table self.old.port self.new.port }
+        ensures port { ReadsAtMost P.Port 1 (port_of self.old) (port_of self.new) (result ≡ Err faults.Fault) }
+        ensures keeps { Keeps self.old self.new }
     {
         let moved = self.go_to(key, number);
         self.refused = moved.err();
@@ -333,20 +327,20 @@ impl<P: Port> Cursor for TableCursor<P> {
     fn first(&mut self) -> Result<(), ReadFault>
         // what it gives
         ensures goes { (es : List Entry) (place : Option ℕ)
-            → StandsAt P.File.TableHandle (arc_value self.old.table) self.old.page self.old.index es place
-            → LeadsTo (StandsAt P.File.TableHandle (arc_value self.new.table) self.new.page self.new.index es) (first_place es) result }
-        ensures lands { OnOk result (spot self.new.index self.new.page ≡ first_spot (arc_value self.old.table).items 0) }
-        ensures walks { OnOk result (Walks P.File.TableHandle (arc_value self.new.table) self.new.index self.new.page self.new.refused []) }
+            → StandsIn self.old es place
+            → LeadsTo (StandsIn self.new es) (first_place es) result }
+        ensures lands { OnOk result (spot_of self.new ≡ first_spot (table_of self.old).items 0) }
+        ensures walks { OnOk result (WalksIn self.new []) }
         // what it leaves
-        ensures nothing { OnErr result (slice_get self.new.page.entries self.new.page.place ≡ None) }
-        ensures refused { self.new.refused ≡ refusal result }
+        ensures nothing { OnErr result (shown_by self.new ≡ None) }
+        ensures refused { refused_of self.new ≡ refusal result }
         // when it fails
-        ensures counts { CountsFaults (P.faults self.old.port) (P.faults self.new.port) result }
-        ensures damage { IfDamage result (IsDamageOf P.File.TableHandle (arc_value self.new.table)) }
-        ensures sure { P.steady self.old.port → result ≡ Err faults.Fault → ⊥ }
+        ensures counts { CountsFaults (P.faults (port_of self.old)) (P.faults (port_of self.new)) result }
+        ensures damage { IfDamage result (DamageIn self.new) }
+        ensures sure { P.steady (port_of self.old) → result ≡ Err faults.Fault → ⊥ }
         // what stays
-        ensures port { ReadsAtMost P.Port 1 self.old.port self.new.port (result ≡ Err faults.Fault) }
-        ensures keeps { Keeps P.Port self.old.table self.new.table self.old.port self.new.port }
+        ensures port { ReadsAtMost P.Port 1 (port_of self.old) (port_of self.new) (result ≡ Err faults.Fault) }
+        ensures keeps { Keeps self.old self.new }
     {
         let moved = self.show(0);
         self.refused = moved.err();
@@ -356,19 +350,19 @@ impl<P: Port> Cursor for TableCursor<P> {
     fn last(&mut self) -> Result<(), ReadFault>
         // what it gives
         ensures goes { (es : List Entry) (place : Option ℕ)
-            → StandsAt P.File.TableHandle (arc_value self.old.table) self.old.page self.old.index es place
-            → LeadsTo (StandsAt P.File.TableHandle (arc_value self.new.table) self.new.page self.new.index es) (last_place es) result }
-        ensures lands { OnOk result (spot self.new.index self.new.page ≡ last_spot (arc_value self.old.table).items (length (arc_value self.old.table).items - 1) self.new.page) }
+            → StandsIn self.old es place
+            → LeadsTo (StandsIn self.new es) (last_place es) result }
+        ensures lands { OnOk result (spot_of self.new ≡ last_spot (table_of self.old).items (blocks_in self.old - 1) (page_of self.new)) }
         // what it leaves
-        ensures nothing { OnErr result (slice_get self.new.page.entries self.new.page.place ≡ None) }
-        ensures refused { self.new.refused ≡ refusal result }
+        ensures nothing { OnErr result (shown_by self.new ≡ None) }
+        ensures refused { refused_of self.new ≡ refusal result }
         // when it fails
-        ensures counts { CountsFaults (P.faults self.old.port) (P.faults self.new.port) result }
-        ensures damage { IfDamage result (IsDamageOf P.File.TableHandle (arc_value self.new.table)) }
-        ensures sure { P.steady self.old.port → result ≡ Err faults.Fault → ⊥ }
+        ensures counts { CountsFaults (P.faults (port_of self.old)) (P.faults (port_of self.new)) result }
+        ensures damage { IfDamage result (DamageIn self.new) }
+        ensures sure { P.steady (port_of self.old) → result ≡ Err faults.Fault → ⊥ }
         // what stays
-        ensures port { ReadsAtMost P.Port 1 self.old.port self.new.port (result ≡ Err faults.Fault) }
-        ensures keeps { Keeps P.Port self.old.table self.new.table self.old.port self.new.port }
+        ensures port { ReadsAtMost P.Port 1 (port_of self.old) (port_of self.new) (result ≡ Err faults.Fault) }
+        ensures keeps { Keeps self.old self.new }
     {
         let step = self.last_step();
         let moved = self.go(step);
@@ -380,29 +374,29 @@ impl<P: Port> Cursor for TableCursor<P> {
     fn next(&mut self) -> Result<(), ReadFault>
         // what it gives
         ensures goes { (es : List Entry) (place : Option ℕ)
-            → StandsAt P.File.TableHandle (arc_value self.old.table) self.old.page self.old.index es place
-            → LeadsTo (StandsAt P.File.TableHandle (arc_value self.new.table) self.new.page self.new.index es) (next_place es place) result }
-        ensures lands { OnOk result (spot self.new.index self.new.page ≡ next_spot (arc_value self.old.table).items self.old.index self.old.page) }
-        ensures within { self.old.page.place + 1 < length self.old.page.entries → IsOk result × (self.new.port ≡ self.old.port)
-            × (self.new.page ≡ record self.old.page { place = self.old.page.place + 1 }) }
-        ensures walks { OnOk result ((es : List Entry) (e : Entry) → slice_get self.old.page.entries self.old.page.place ≡ Some e
-            → Walks P.File.TableHandle (arc_value self.old.table) self.old.index self.old.page self.old.refused es
-            → Walks P.File.TableHandle (arc_value self.new.table) self.new.index self.new.page self.new.refused (es ++ e ∷ [])) }
-        ensures fewer { (e : Entry) → slice_get self.old.page.entries self.old.page.place ≡ Some e
-            → steps_ahead (length (arc_value self.new.table).items) self.new.index self.new.page
-                < steps_ahead (length (arc_value self.old.table).items) self.old.index self.old.page }
-        ensures stays { slice_get self.old.page.entries self.old.page.place ≡ None
-            → IsOk result × (slice_get self.new.page.entries self.new.page.place ≡ None) }
+            → StandsIn self.old es place
+            → LeadsTo (StandsIn self.new es) (next_place es place) result }
+        ensures lands { OnOk result (spot_of self.new ≡ next_spot (table_of self.old).items (index_of self.old) (page_of self.old)) }
+        ensures within { (page_of self.old).place + 1 < length (page_of self.old).entries → IsOk result × ((port_of self.new) ≡ (port_of self.old))
+            × ((page_of self.new) ≡ record (page_of self.old) { place = (page_of self.old).place + 1 }) }
+        ensures walks { OnOk result ((es : List Entry) (e : Entry) → shown_by self.old ≡ Some e
+            → WalksIn self.old es
+            → WalksIn self.new (es ++ e ∷ [])) }
+        ensures fewer { (e : Entry) → shown_by self.old ≡ Some e
+            → ahead_of self.new
+                < ahead_of self.old }
+        ensures stays { shown_by self.old ≡ None
+            → IsOk result × (shown_by self.new ≡ None) }
         // what it leaves
-        ensures nothing { OnErr result (slice_get self.new.page.entries self.new.page.place ≡ None) }
-        ensures refused { self.new.refused ≡ refusal result }
+        ensures nothing { OnErr result (shown_by self.new ≡ None) }
+        ensures refused { refused_of self.new ≡ refusal result }
         // when it fails
-        ensures counts { CountsFaults (P.faults self.old.port) (P.faults self.new.port) result }
-        ensures damage { IfDamage result (IsDamageOf P.File.TableHandle (arc_value self.new.table)) }
-        ensures sure { P.steady self.old.port → result ≡ Err faults.Fault → ⊥ }
+        ensures counts { CountsFaults (P.faults (port_of self.old)) (P.faults (port_of self.new)) result }
+        ensures damage { IfDamage result (DamageIn self.new) }
+        ensures sure { P.steady (port_of self.old) → result ≡ Err faults.Fault → ⊥ }
         // what stays
-        ensures port { ReadsAtMost P.Port 1 self.old.port self.new.port (result ≡ Err faults.Fault) }
-        ensures keeps { Keeps P.Port self.old.table self.new.table self.old.port self.new.port }
+        ensures port { ReadsAtMost P.Port 1 (port_of self.old) (port_of self.new) (result ≡ Err faults.Fault) }
+        ensures keeps { Keeps self.old self.new }
     {
         let step = self.next_step();
         let moved = self.go(step);
@@ -414,24 +408,24 @@ impl<P: Port> Cursor for TableCursor<P> {
     fn prev(&mut self) -> Result<(), ReadFault>
         // what it gives
         ensures goes { (es : List Entry) (place : Option ℕ)
-            → StandsAt P.File.TableHandle (arc_value self.old.table) self.old.page self.old.index es place
-            → LeadsTo (StandsAt P.File.TableHandle (arc_value self.new.table) self.new.page self.new.index es) (previous_place place) result }
-        ensures lands { OnOk result (spot self.new.index self.new.page ≡ previous_spot (arc_value self.old.table).items self.old.index self.old.page self.new.page) }
-        ensures within { 0 < self.old.page.place → 0 < length self.old.page.entries → IsOk result × (self.new.port ≡ self.old.port)
-            × (self.new.page ≡ record self.old.page { place = self.old.page.place - 1 }) }
-        ensures fewer { (e : Entry) → slice_get self.old.page.entries self.old.page.place ≡ Some e → steps_back self.new.index self.new.page < steps_back self.old.index self.old.page }
-        ensures stays { slice_get self.old.page.entries self.old.page.place ≡ None
-            → IsOk result × (slice_get self.new.page.entries self.new.page.place ≡ None) }
+            → StandsIn self.old es place
+            → LeadsTo (StandsIn self.new es) (previous_place place) result }
+        ensures lands { OnOk result (spot_of self.new ≡ previous_spot (table_of self.old).items (index_of self.old) (page_of self.old) (page_of self.new)) }
+        ensures within { 0 < (page_of self.old).place → 0 < length (page_of self.old).entries → IsOk result × ((port_of self.new) ≡ (port_of self.old))
+            × ((page_of self.new) ≡ record (page_of self.old) { place = (page_of self.old).place - 1 }) }
+        ensures fewer { (e : Entry) → shown_by self.old ≡ Some e → back_of self.new < back_of self.old }
+        ensures stays { shown_by self.old ≡ None
+            → IsOk result × (shown_by self.new ≡ None) }
         // what it leaves
-        ensures nothing { OnErr result (slice_get self.new.page.entries self.new.page.place ≡ None) }
-        ensures refused { self.new.refused ≡ refusal result }
+        ensures nothing { OnErr result (shown_by self.new ≡ None) }
+        ensures refused { refused_of self.new ≡ refusal result }
         // when it fails
-        ensures counts { CountsFaults (P.faults self.old.port) (P.faults self.new.port) result }
-        ensures damage { IfDamage result (IsDamageOf P.File.TableHandle (arc_value self.new.table)) }
-        ensures sure { P.steady self.old.port → result ≡ Err faults.Fault → ⊥ }
+        ensures counts { CountsFaults (P.faults (port_of self.old)) (P.faults (port_of self.new)) result }
+        ensures damage { IfDamage result (DamageIn self.new) }
+        ensures sure { P.steady (port_of self.old) → result ≡ Err faults.Fault → ⊥ }
         // what stays
-        ensures port { ReadsAtMost P.Port 1 self.old.port self.new.port (result ≡ Err faults.Fault) }
-        ensures keeps { Keeps P.Port self.old.table self.new.table self.old.port self.new.port }
+        ensures port { ReadsAtMost P.Port 1 (port_of self.old) (port_of self.new) (result ≡ Err faults.Fault) }
+        ensures keeps { Keeps self.old self.new }
     {
         let step = self.previous_step();
         let moved = self.go(step);
@@ -442,8 +436,8 @@ impl<P: Port> Cursor for TableCursor<P> {
     /// Lends the entry at its place; None exactly at no place. The entry is one of a block that agrees with the table's index and
     /// row, and whose bytes stand in the table's file.
     fn at(&self) -> Option<EntryRef<'_>>
-        ensures lent { option_map entry_of result ≡ slice_get self.now.page.entries self.now.page.place }
-        ensures agrees { IfSome result (λ entry. IsOfBlock P.File.TableHandle (arc_value self.now.table) (entry_of entry)) }
+        ensures lent { option_map entry_of result ≡ shown_by self.now }
+        ensures agrees { IfSome result (λ entry. IsOfTable self.now (entry_of entry)) }
     {
         if self.page.is_empty() {
             return None;

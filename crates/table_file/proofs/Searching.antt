@@ -66,6 +66,15 @@ closed_ascend full es begun sorted is =
     let each = blocks_ascend 0 [] 0 (blocks_of full es) (subst AreSorted (sym parts.whole) sorted) parts.each in
     ap (λ b. ascend (items_from 0 (with_last (cut_of full es).closed b))) is ∙ each
 
+-- and there is one, where there are entries
+pub closed_some : (full : ℕ) (es begun : List Entry) → 0 < length es → begun ≡ (cut_of full es).begun → 0 < length (items_from 0 (with_last (cut_of full es).closed begun))
+closed_some full es begun some is =
+    subst (λ b. 0 < length (items_from 0 (with_last (cut_of full es).closed b))) (sym is) (by (blocks_of full es) (parts_cut full es).whole)
+  where
+    by : (blocks : List (List Entry)) → joined blocks ≡ es → 0 < length (items_from 0 blocks)
+    by [] whole = absurd (omega (arith, some, ap length whole))
+    by (b ∷ blocks) whole = omega arith
+
 -- each of items that ascend comes after what they all come after
 is_after : (before : Bytes) (above : ℕ) (items : List IndexItem) → ascend_from before above items ≡ true → (i : ℕ) (d : IndexItem) → i < length items → comes_before before above (get_or items i d).key (get_or items i d).number ≡ true
 is_after before above [] all i d within = absurd (omega (arith, within))

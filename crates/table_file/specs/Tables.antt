@@ -16,9 +16,10 @@ pub record TableParts (F : Type 0) : Type 0 where
   pub items : List IndexItem
   pub filter : List ℕ
 
--- what is true of every table: its file has its number, no block is longer than 40,960 bytes, and the last entries of the blocks ascend
+-- what is true of every table: its file has its number, it has a block, no block is longer than 40,960 bytes, and the last entries of the blocks ascend
 pub record IsShaped {F : Type 0} (number : F → ℕ) (t : TableParts F) : Type 0 where
   pub number_is : number t.file ≡ t.row.number
+  pub some : 0 < length t.items
   pub short : IsTrue (are_short t.items)
   pub ascending : IsTrue (ascend t.items)
 

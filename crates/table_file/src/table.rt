@@ -14,7 +14,7 @@ use std::marker::Model;
 
 /// A sorted table (SSTable): its row, the handle of its file, its index and its filter; contracts see these four.
 ///
-/// Its file has the row's number, no block by its index is longer than 40,960 bytes, and the last entries of its blocks ascend.
+/// Its file has the row's number, it has a block at least, no block by its index is longer than 40,960 bytes, and the last entries of its blocks ascend.
 #[derive(Drop)]
 pub struct Table<F: TableHandle> {
     pub(crate) row: TableRow,
@@ -49,9 +49,10 @@ impl<F: TableHandle> Table<F> {
         &self.file
     }
 
-    /// The number of blocks, which is that of index items.
+    /// The number of blocks, which is that of index items: at least one.
     pub fn blocks(&self) -> usize
-        ensures { result ≡ length self.now.items }
+        ensures count { result ≡ length self.now.items }
+        ensures some { 0 < length self.now.items }
     {
         self.items.len()
     }

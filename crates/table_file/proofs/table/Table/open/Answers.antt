@@ -29,6 +29,7 @@ returns-clause-opened g c = λ told.
 pub invariant_of-result : goal.invariant_of-result
 invariant_of-result g c = record {
   number_is = (let number : g.F.TableHandle.number c.in-Some.file ≡ c.args.row.number = search rules in number);
+  some = c.in-Ok-read_index.ensures.index.some;
   short = index_short c.in-Ok-read_footer.footer.index c.in-Ok-read_index.items.items c.in-Ok-read_index.ensures.index;
   ascending = index_ascends c.in-Ok-read_footer.footer.index c.in-Ok-read_index.items.items c.in-Ok-read_index.ensures.index;
 }

@@ -4,7 +4,7 @@ use Rattle.table_file.specs.Gathers.{Gathers}
 use Rattle.table_file.specs.Limits.{blocks_fault, IsRefused}
 use Rattle.table_file.specs.Tables.{IsTableOf}
 use Rattle.table_file.proofs.Cuts.{ends_with, no_limit}
-use Rattle.table_file.proofs.Searching.{closed_ascend}
+use Rattle.table_file.proofs.Searching.{closed_ascend, closed_some}
 use Rattle.table_file.proofs.table_writer.TableWriter.finish.Goals as goal
 
 pub returns-in-Err-clause-limit : goal.returns-in-Err-clause-limit
@@ -28,6 +28,7 @@ seal_table-requires-clause-entries g c =
         some = c.requires.2;
         few = pushed.keeps.few;
         index_is = c.in-Ok.ensures.index closed pushed.keeps.index_is (ends_with _ _ _ _ _ _ _ _ _ es pushed.keeps);
+        blocked = closed_some c.args.self.now.builder.full es c.args.self.now.builder.entries c.requires.2 pushed.keeps.open_is;
         ascending = closed_ascend c.args.self.now.builder.full es c.args.self.now.builder.entries pushed.keeps.sorted pushed.keeps.open_is;
         hashes_are = c.deref.ensures.value ∙ pushed.keeps.hashes_are;
         sums = pushed.keeps.sums;
@@ -43,6 +44,7 @@ returns-in-Ok-seal_table-clause-table g c = λ es pushed some.
       some = some;
       few = pushed.keeps.few;
       index_is = c.in-Ok.ensures.index closed pushed.keeps.index_is (ends_with _ _ _ _ _ _ _ _ _ es pushed.keeps);
+      blocked = closed_some c.args.self.now.builder.full es block some pushed.keeps.open_is;
       ascending = closed_ascend c.args.self.now.builder.full es block pushed.keeps.sorted pushed.keeps.open_is;
       hashes_are = c.deref.ensures.value ∙ pushed.keeps.hashes_are;
       sums = pushed.keeps.sums;
