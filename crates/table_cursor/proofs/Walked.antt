@@ -21,10 +21,7 @@ use Rattle.table_cursor.specs.WalkLaws.{take_on, page_read}
 
 -- ---- what is shown
 
-pub none_some : (l : List Entry) → l ≡ [] → length l ≡ 0
-none_some l is = ap length is
-
-no_entries : (l : List Entry) → length l ≡ 0 → l ≡ []
+pub no_entries : (l : List Entry) → length l ≡ 0 → l ≡ []
 no_entries [] none = refl
 no_entries (e ∷ l) none = absurd (omega (arith, none))
 
@@ -104,14 +101,14 @@ none_is items index place le =
     let test : nat_lt index (length items) ≡ false = grind (arith, nat_tests, le) in
     ap (λ b. if b then Some (index, place) else None) test
 
-by_some : {A : Type 0} (l : List Entry) (none some : A) → 0 < length l → by_entries l none some ≡ some
+pub by_some : {A : Type 0} (l : List Entry) (none some : A) → 0 < length l → by_entries l none some ≡ some
 by_some [] none some h = absurd (omega (arith, h))
 by_some (e ∷ l) none some h = refl
 
-by_none : {A : Type 0} (l : List Entry) (none some : A) → l ≡ [] → by_entries l none some ≡ none
+pub by_none : {A : Type 0} (l : List Entry) (none some : A) → l ≡ [] → by_entries l none some ≡ none
 by_none l none some is = ap (λ x. by_entries x none some) is
 
-take_none : (n : ℕ) (l : List Entry) → l ≡ [] → take n l ≡ []
+pub take_none : (n : ℕ) (l : List Entry) → l ≡ [] → take n l ≡ []
 take_none n l is = ap (take n) is ∙ by n
   where
     no_list : List Entry

@@ -1,8 +1,10 @@
 -- What a cursor went over in its table, whatever the device tells.
-use Rattle.std.specs.Prelude.{◌≡◌, ℕ, zero, suc, ◌+◌, ◌-◌, ◌*◌, List, [], ◌∷◌, ◌++◌, length, take, Option, None}
+use Rattle.std.specs.Prelude.{◌≡◌, ℕ, zero, suc, ◌+◌, ◌-◌, ◌*◌, ◌<◌, ◌≤◌, List, [], ◌∷◌, ◌++◌, length, take, Option, Some, None}
 use Rattle.disk_model.specs.declared.table_handle.TableHandle.{Ghosts}
 use Rattle.peb_base.specs.Entries.{AreSorted}
+use Rattle.peb_base.specs.Tables.{first_key, last_key, least_number, greatest_number}
 use Rattle.peb_base.specs.declared.entry.Entry.{Entry}
+use Rattle.peb_base.specs.declared.table_row.TableRow.{TableRow}
 use Rattle.peb_base.specs.declared.read_fault.ReadFault.{ReadFault}
 use Rattle.table_file.specs.Tables.{TableParts}
 use Rattle.table_cursor.specs.Agreeing.{ShowsOf}
@@ -51,3 +53,17 @@ steps_ahead blocks index page = by_entries page.entries 0 (most_steps (blocks - 
 -- how many steps back there are at most
 abbrev pub steps_back : ℕ → Reading → ℕ
 steps_back index page = by_entries page.entries 0 (most_steps index + page.place + 1)
+
+-- entries that ascend, begin with the row's smallest key, end with its largest, and have numbers within the row's
+pub record SpansRow (row : TableRow) (es : List Entry) : Type 0 where
+  pub some : 0 < length es
+  pub sorted : AreSorted es
+  pub smallest : first_key es ≡ row.smallest
+  pub largest : last_key es ≡ row.largest
+  pub least : row.first ≤ least_number es
+  pub greatest : greatest_number es ≤ row.last
+
+-- the entries in front of a place, and all in front of no place
+abbrev pub in_front : Option ℕ → List Entry → List Entry
+in_front None es = es
+in_front (Some n) es = take n es

@@ -87,6 +87,14 @@ impl<P: Port> TableCursor<P> {
         (table, port, page.into_loan())
     }
 
+    /// How many blocks the table has, at least one.
+    pub fn blocks(&self) -> usize
+        ensures count { result ≡ length (table_of self.now).items }
+        ensures some { 0 < length (table_of self.now).items }
+    {
+        self.table.blocks()
+    }
+
     /// One entry on.
     fn next_step(&self) -> Step
         ensures fits { Fits result self.now.page }
