@@ -1,4 +1,5 @@
 pub mod Building
+pub mod Counting
 pub mod Form
 pub mod Parts
 pub mod Rows

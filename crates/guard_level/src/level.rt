@@ -5,9 +5,8 @@ ghost use Rattle.std.specs.List.{AllByRecursion, AllZip};
 ghost use Rattle.guard_level.specs.TableLists.{below, above, IsAbsent, TakesFrom, AreShared};
 ghost use Rattle.guard_level.specs.Guards.{Ascend, guard_of, is_guard, tables_of, LiesIn, with_table, cut_at, IsUncut, Takes, IsCopy};
 
-use crate::order::is_below;
 use crate::tables::Tables;
-use peb_base::{Key, Memory, TableLike};
+use peb_base::{Key, Memory, TableLike, is_below};
 use std::alloc::Global;
 use std::marker::Model;
 
@@ -193,16 +192,9 @@ fn copy_keys(alloc: Global, keys: &[Key]) -> Result<Vec<Key>, Memory>
 {
     let mut copies = Vec::with_capacity(alloc, keys.len())?;
     for key in keys {
-        copies.push(copy_key(alloc, key)?)?;
+        copies.push(key.copy(alloc)?)?;
     }
     Ok(copies)
-}
-
-/// A copy of a key.
-fn copy_key(alloc: Global, key: &Key) -> Result<Key, Memory>
-    ensures { IfOk result (λ copy. copy ≡ key.now) }
-{
-    Key::new(alloc, key.bytes()).map_err(|_| Memory)
 }
 
 /// Further handles to the tables of each guard.

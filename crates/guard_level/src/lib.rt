@@ -6,7 +6,6 @@
 #![tactic(auto)]
 
 mod level;
-mod order;
 mod tables;
 #[cfg(test)]
 mod tests;

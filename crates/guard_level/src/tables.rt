@@ -3,8 +3,7 @@
 ghost use Rattle.std.specs.Prelude.{◌≡◌, ◌≤◌, ◌+◌, ◌++◌, ◌∷◌, [], List, length, IfOk, OnOk, OnErr, IfErr, IfSome, IfNone, vec_len, vec_capacity};
 ghost use Rattle.guard_level.specs.TableLists.{below, above, IsAbsent, TakesOut, AreShared};
 
-use crate::order::is_below;
-use peb_base::{HasRow, Memory, TableLike};
+use peb_base::{HasRow, Memory, TableLike, is_below};
 use std::alloc::Global;
 use std::marker::Model;
 

@@ -5,8 +5,7 @@ ghost use Rattle.std.specs.Arc.{arc_value};
 ghost use Rattle.peb_base.specs.Keys.{key_lt};
 
 use crate::Level;
-use crate::order::is_below;
-use peb_base::{HasRow, Key, Number, TableRow};
+use peb_base::{HasRow, Key, Number, TableRow, is_below};
 use std::alloc::Global;
 use std::process::Abort;
 use std::sync::Arc;

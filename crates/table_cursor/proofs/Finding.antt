@@ -13,9 +13,10 @@ use Rattle.table_file.specs.Items.{index_for}
 use Rattle.table_file.specs.declared.index_item.IndexItem.{IndexItem}
 use Rattle.table_cursor.specs.Agreeing.{Agrees}
 use Rattle.table_cursor.specs.Standing.{joined, entries_before}
-use Rattle.table_file.specs.Ascending.{after_trans, last_after, rest_ascends, front_ascends}
+use Rattle.peb_base.specs.EntryLaws.{before_trans}
+use Rattle.table_file.specs.Ascending.{last_after, rest_ascends, front_ascends}
 use Rattle.table_cursor.specs.Places.{block_is}
-use Rattle.table_cursor.proofs.Ends.{item_is}
+use Rattle.table_cursor.specs.IndexLaws.{item_is}
 
 -- entries of which the last comes before are passed
 pub all_before : (before : Bytes) (above : ℕ) (key : Bytes) (number : ℕ) (es more : List Entry) → AscendFrom before above es → 0 < length es → comes_before (last_key es) (last_number es) key number ≡ true
@@ -25,7 +26,7 @@ all_before before above key number (e ∷ []) more each some passed =
     ap (λ b. if b then suc (first_from key number more) else 0) passed ∙ omega arith
 all_before before above key number (e ∷ f ∷ es) more each some passed =
     let mine : comes_before e.key e.number key number ≡ true =
-    after_trans e.key e.number (last_key (f ∷ es)) (last_number (f ∷ es)) key number (last_after e.key e.number (f ∷ es) each.2 (omega arith)) passed in
+    before_trans e.key e.number (last_key (f ∷ es)) (last_number (f ∷ es)) key number (last_after e.key e.number (f ∷ es) each.2 (omega arith)) passed in
     let rest = all_before e.key e.number key number (f ∷ es) more each.2 (omega arith) passed in
     ap (λ b. if b then suc (first_from key number (f ∷ es ++ more)) else 0) mine ∙ omega (arith, rest)
 

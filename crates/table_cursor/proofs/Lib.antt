@@ -6,3 +6,5 @@ pub mod Moves
 pub mod Pages
 pub mod Seeking
 pub mod Standings
+pub mod WalkEnds
+pub mod Walked

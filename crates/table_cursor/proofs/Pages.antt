@@ -1,10 +1,16 @@
 -- Pages with a block, and without one.
-use Rattle.std.proofs.Common.{◌≡◌, ℕ, ◌≤◌, List, [], length, take, Some, refl, sym, ap, arith, subst}
+use Rattle.std.proofs.Common.{◌≡◌, ℕ, ◌≤◌, ◌∙◌, IsTrue, List, [], length, take, drop, Some, refl, sym, ap, arith, subst}
 use Rattle.std.specs.Prelude.{slice_get}
 use Rattle.peb_base.specs.Keys.{Bytes}
 use Rattle.peb_base.specs.declared.entry.Entry.{Entry}
 use Rattle.block_form.specs.Form.{IsBlock, entries_bytes}
 use Rattle.block_form.specs.Walks.{entries_from, entries_in}
+use Rattle.disk_model.specs.declared.table_handle.TableHandle.{Ghosts}
+use Rattle.table_file.specs.Tables.{TableParts}
+use Rattle.table_file.specs.declared.index_item.IndexItem.{IndexItem}
+use Rattle.table_cursor.specs.Agreeing.{Agrees}
+use Rattle.table_cursor.specs.Fetching.{Fetched}
+use Rattle.table_cursor.specs.IndexLaws.{item_is}
 use Rattle.table_cursor.specs.Page.{IsPage}
 
 pub none_in : (bytes : List ℕ) → entries_in 0 bytes ≡ []
@@ -29,3 +35,17 @@ unfolding entries_bytes
 full_page len count buffer key es fits form counted same first =
     subst (λ (l : List Entry). IsPage len count 0 0 buffer key l) (sym same)
     (record { fits = fits; count_is = sym counted; block = λ some. form; inside = λ some. some; key_is = λ some. first; here_is = λ some. refl })
+
+-- what was read into a buffer, by the item at the index
+pub record KnownBlock {F : Type 0} (g : Ghosts F) (t : TableParts F) (index : ℕ) (item : IndexItem) (count : ℕ) (buffer : List ℕ) : Type 0 where
+  pub entries : List Entry
+  pub fits : item.len ≤ 40960
+  pub form : IsBlock entries (take item.len buffer)
+  pub counted : length entries ≡ count
+  pub agrees : Agrees t.row t.items index item.place entries
+  pub read : IsTrue g.tells → take item.len buffer ≡ take item.len (drop item.place (g.bytes t.file))
+
+pub known_block : {F : Type 0} (g : Ghosts F) (t : TableParts F) (index : ℕ) (item : IndexItem) (count : ℕ) (buffer : List ℕ) → slice_get t.items index ≡ Some item → Fetched g t index count buffer → KnownBlock g t index item count buffer
+known_block g t index item count buffer there f =
+    subst (λ i. KnownBlock g t index i count buffer) (item_is f.item item (sym f.indexed ∙ there))
+    (record { entries = f.entries; fits = f.fits; form = f.form; counted = f.counted; agrees = f.agrees; read = f.read })

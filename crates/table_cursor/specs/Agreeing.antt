@@ -1,17 +1,15 @@
 -- When a block agrees with its table.
-use Rattle.std.specs.Prelude.{◌≡◌, ℕ, zero, suc, ◌<◌, ◌≤◌, Bool, true, IsTrue, List, [], ◌∷◌, length, take, drop, Some, slice_get, Result, Ok, Err}
+use Rattle.std.specs.Prelude.{◌≡◌, ℕ, zero, suc, ◌<◌, ◌≤◌, true, IsTrue, List, [], ◌∷◌, length, take, drop, Some, slice_get}
 use Rattle.peb_base.specs.Keys.{Bytes}
 use Rattle.peb_base.specs.Entries.{comes_before}
 use Rattle.peb_base.specs.Tables.{first_key, last_key, least_number, greatest_number}
 use Rattle.peb_base.specs.declared.entry.Entry.{Entry}
 use Rattle.peb_base.specs.declared.table_row.TableRow.{TableRow}
-use Rattle.peb_base.specs.declared.read_fault.ReadFault.{ReadFault}
-use Rattle.peb_base.specs.declared.read_fault.ReadFault.TheVariants.{Fault, Damaged}
-use Rattle.block_form.specs.Form.{IsBlock}
+use Rattle.block_form.specs.Form.{IsBlock, block_bytes}
 use Rattle.table_file.specs.Form.{item_of}
 use Rattle.table_file.specs.declared.index_item.IndexItem.{IndexItem}
 use Rattle.disk_model.specs.declared.table_handle.TableHandle.{Ghosts}
-use Rattle.table_file.specs.declared.table.Table.{Table}
+use Rattle.table_file.specs.Tables.{TableParts}
 use Rattle.table_cursor.specs.Page.{Reading}
 
 -- the last key in front of the block at an index, where this one stands in front of the first
@@ -42,38 +40,25 @@ pub record Agrees (row : TableRow) (items : List IndexItem) (index at : ℕ) (es
   pub greatest : greatest_number es ≤ row.last
 
 -- the page shows an entry of the block at this index, which agrees with the table, and whose bytes stand in the file, where that is told
-pub record Shows (tells : Bool) (file : List ℕ) (row : TableRow) (items : List IndexItem) (index : ℕ) (page : Reading) : Type 0 where
+pub record ShowsOf {F : Type 0} (g : Ghosts F) (t : TableParts F) (index : ℕ) (page : Reading) : Type 0 where
   pub inside : page.place < length page.entries
-  pub agrees : Agrees row items index page.at page.entries
-  pub read : IsTrue tells → page.bytes ≡ take (length page.bytes) (drop page.at file)
+  pub agrees : Agrees t.row t.items index page.at page.entries
+  pub small : length page.bytes ≤ 40960
+  pub spelled : page.bytes ≡ block_bytes page.entries
+  pub read : IsTrue g.tells → page.bytes ≡ take (length page.bytes) (drop page.at (g.bytes t.file))
 
--- the same of a table whose handle has these bytes
-abbrev pub ShowsOf : {F : Type 0} {g : Ghosts F} → Table F g → ℕ → Reading → Type 0
-ShowsOf {F} {g} table index page = Shows g.tells (g.bytes table.file) table.row table.items.items index page
-
--- the entry is one of a block that agrees with the index and the row of a table whose handle has these bytes, where the block's bytes stand if they are told
-pub record IsOfBlock {F : Type 0} {g : Ghosts F} (table : Table F g) (entry : Entry) : Type 0 where
+-- the entry is one of a block that agrees with the index and the row of the table, and whose bytes stand in its file, if they are told
+pub record IsOfBlock {F : Type 0} (g : Ghosts F) (t : TableParts F) (entry : Entry) : Type 0 where
   pub index : ℕ
   pub page : Reading
-  pub shows : ShowsOf table index page
-  pub form : IsBlock page.entries page.bytes
+  pub shows : ShowsOf g t index page
   pub there : slice_get page.entries page.place ≡ Some entry
 
--- at this place of this table begins a block by the index, where no bytes of a block that agrees with the table stand in the file, if that is told
-pub record IsDamage (tells : Bool) (file : List ℕ) (row : TableRow) (items : List IndexItem) (table at : ℕ) : Type 0 where
+-- at this place of the table of this number begins a block by the index, where no bytes of a block that agrees with the table stand in the file, if that is told
+pub record IsDamageOf {F : Type 0} (g : Ghosts F) (t : TableParts F) (number at : ℕ) : Type 0 where
   pub index : ℕ
   pub item : IndexItem
-  pub table_is : table ≡ row.number
-  pub indexed : slice_get items index ≡ Some item
+  pub number_is : number ≡ t.row.number
+  pub indexed : slice_get t.items index ≡ Some item
   pub place : at ≡ item.place
-  pub none : IsTrue tells → (es : List Entry) → Agrees row items index at es → IsBlock es (take item.len (drop at file)) → ⊥
-
--- the same of a table whose handle has these bytes
-abbrev pub IsDamageOf : {F : Type 0} {g : Ghosts F} → Table F g → ℕ → ℕ → Type 0
-IsDamageOf {F} {g} table number at = IsDamage g.tells (g.bytes table.file) table.row table.items.items number at
-
--- where damage is told
-abbrev pub IfDamage : {T : Type 0} → Result T ReadFault → (ℕ → ℕ → Type 0) → Type 0
-IfDamage (Ok x) fact = Unit {0}
-IfDamage (Err Fault) fact = Unit {0}
-IfDamage (Err (Damaged table at)) fact = fact table at
+  pub none : IsTrue g.tells → (es : List Entry) → Agrees t.row t.items index at es → IsBlock es (take item.len (drop at (g.bytes t.file))) → ⊥

@@ -1,7 +1,12 @@
 pub mod Agreeing
 pub mod Fetching
+pub mod IndexLaws
 pub mod Page
 pub mod Places
+pub mod Spots
 pub mod Standing
 pub mod StandingLaws
 pub mod Steps
+pub mod Views
+pub mod Walking
+pub mod WalkLaws

@@ -27,10 +27,3 @@ Fits Nowhere page = Unit {0}
 Fits (Within place) page = place < length page.entries
 Fits (First i) page = Unit {0}
 Fits (Last i) page = Unit {0}
-
--- a move makes one read at most, and fails only where the port failed; the port's tables stay
-pub record Costs (reads0 reads faults0 faults : ℕ) (files0 files : TableFiles) (result : Result (Unit {0}) ReadFault) : Type 0 where
-  pub once : reads ≤ reads0 + 1
-  pub later : faults0 ≤ faults
-  pub cause : result ≡ Err Fault → Rose faults0 faults
-  pub stay : files ≡ files0

@@ -11,21 +11,8 @@ ghost use Rattle.table_cursor.specs.Agreeing.{key_before, number_before, first_n
 
 use block_form::{Block, one_block};
 use disk_model::TableHandle;
-use peb_base::{KeyBuf, Number, TableRow};
-use std::cmp::Ordering;
+use peb_base::{KeyBuf, Number, TableRow, is_before};
 use table_file::Table;
-
-/// Whether the first key and number come before the second, in entry order.
-#[tactic(auto, using(peb_base::specs::EntryLaws::comes_before_by))]
-pub fn is_before(key: &[u8], number: u64, later: &[u8], lower: u64) -> bool
-    ensures { result ≡ comes_before key.now number later.now lower }
-{
-    match key.cmp(&later) {
-        Ordering::Less => true,
-        Ordering::Equal => lower < number,
-        Ordering::Greater => false,
-    }
-}
 
 /// Whether the block's last entry has this key and number.
 fn ends_with(block: &Block<'_>, key: &[u8], number: Number) -> bool
@@ -50,8 +37,8 @@ fn begins_after(block: &Block<'_>, key: &[u8], number: u64) -> bool
 /// Whether the block's first entry comes after the last one of the block before, if this is the block at an index of the table.
 fn follows<F: TableHandle>(table: &Table<F>, index: usize, block: &Block<'_>) -> bool
     requires some { 0 < length block.now }
-    requires inside { index < length table.now.items.items }
-    ensures { IsTrue result ↔ (comes_before (key_before [] index table.now.items.items) (number_before 0 index table.now.items.items) (first_key block.now) (first_number block.now) ≡ true) }
+    requires inside { index < length table.now.items }
+    ensures { IsTrue result ↔ (comes_before (key_before [] index table.now.items) (number_before 0 index table.now.items) (first_key block.now) (first_number block.now) ≡ true) }
 {
     if index == 0 {
         return begins_after(block, &[], 0);
@@ -91,10 +78,11 @@ fn opens_table<F: TableHandle>(table: &Table<F>, index: usize, block: &Block<'_>
 
 /// Whether this key is the table's largest, if the block at this index is the last.
 fn closes_table<F: TableHandle>(table: &Table<F>, index: usize, key: &[u8]) -> bool
-    requires { index < length table.now.items.items }
-    ensures { IsTrue result ↔ (suc index ≡ length table.now.items.items → key.now ≡ table.now.row.largest) }
+    requires { index < length table.now.items }
+    ensures { IsTrue result ↔ (suc index ≡ length table.now.items → key.now ≡ table.now.row.largest) }
 {
-    if index + 1 != table.blocks() {
+    let blocks = table.blocks();
+    if index + 1 != blocks {
         return true;
     }
     key == table.row().largest.bytes()
@@ -103,10 +91,10 @@ fn closes_table<F: TableHandle>(table: &Table<F>, index: usize, key: &[u8]) -> b
 /// Whether the block, which is as long as the index says, is what the table tells of the one at this index.
 fn agrees<F: TableHandle>(table: &Table<F>, index: usize, block: &Block<'_>) -> bool
     requires some { 0 < length block.now }
-    requires inside { index < length table.now.items.items }
-    requires long { (item : IndexItem) → slice_get table.now.items.items index ≡ Some item → item.len ≡ length (block_bytes block.now) }
-    ensures yes { IsTrue result → (item : IndexItem) → slice_get table.now.items.items index ≡ Some item → Agrees table.now.row table.now.items.items index item.place block.now }
-    ensures no { (at : ℕ) → Agrees table.now.row table.now.items.items index at block.now → IsTrue result }
+    requires inside { index < length table.now.items }
+    requires long { (item : IndexItem) → slice_get table.now.items index ≡ Some item → item.len ≡ length (block_bytes block.now) }
+    ensures yes { IsTrue result → (item : IndexItem) → slice_get table.now.items index ≡ Some item → Agrees table.now.row table.now.items index item.place block.now }
+    ensures no { (at : ℕ) → Agrees table.now.row table.now.items index at block.now → IsTrue result }
 {
     let (_, _, key, number) = table.item(index);
     if !ends_with(block, key, number) {
@@ -126,9 +114,9 @@ fn agrees<F: TableHandle>(table: &Table<F>, index: usize, block: &Block<'_>) -> 
 
 /// How many entries the block of these bytes has, if they are the block at this index of the table.
 pub fn count_at<F: TableHandle>(table: &Table<F>, index: usize, bytes: &[u8]) -> Option<usize>
-    requires { index < length table.now.items.items }
-    ensures some { IfSome result (λ count. (es : List Entry) × IsBlock es bytes.now × (length es ≡ count) × ((item : IndexItem) → slice_get table.now.items.items index ≡ Some item → Agrees table.now.row table.now.items.items index item.place es)) }
-    ensures none { IfNone result ((at : ℕ) (es : List Entry) → IsBlock es bytes.now → Agrees table.now.row table.now.items.items index at es → ⊥) }
+    requires { index < length table.now.items }
+    ensures some { IfSome result (λ count. (es : List Entry) × IsBlock es bytes.now × (length es ≡ count) × ((item : IndexItem) → slice_get table.now.items index ≡ Some item → Agrees table.now.row table.now.items index item.place es)) }
+    ensures none { IfNone result ((at : ℕ) (es : List Entry) → IsBlock es bytes.now → Agrees table.now.row table.now.items index at es → ⊥) }
 {
     one_block();
     let Ok(block) = Block::read(bytes) else {

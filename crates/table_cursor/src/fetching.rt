@@ -1,9 +1,10 @@
 //! Reading a table's blocks.
 
-ghost use Rattle.std.specs.Prelude.{◌≡◌, ◌≤◌, ◌<◌, ◌+◌, IsTrue, IsOk, IfOk, Some, Err, length, take, drop, slice_get};
-ghost use Rattle.disk_model.specs.Images.{HasCause, Rose};
-ghost use Rattle.table_file.specs.declared.index_item.IndexItem.{IndexItem};
-ghost use Rattle.table_cursor.specs.Agreeing.{IfDamage, IsDamage};
+ghost use Rattle.std.specs.Prelude.{◌≡◌, ◌≤◌, ◌<◌, ◌+◌, IsTrue, IsOk, IfOk, Err, length, take, drop};
+ghost use Rattle.disk_model.specs.Images.{HasCause};
+ghost use Rattle.peb_base.specs.Cursors.{IfDamage};
+ghost use Rattle.table_file.specs.Ports.{ReadsAtMost};
+ghost use Rattle.table_cursor.specs.Agreeing.{IsDamageOf};
 ghost use Rattle.table_cursor.specs.Fetching.{Fetched};
 ghost use Rattle.peb_base.specs.declared.read_fault.ReadFault.TheVariants as faults;
 
@@ -58,15 +59,11 @@ pub fn fetch<P: Port>(
     index: usize,
     loan: &mut Loan,
 ) -> Result<usize, ReadFault>
-    requires { index < length table.now.items.items }
-    ensures fetched { IfOk result (λ count. (item : IndexItem) → slice_get table.now.items.items index ≡ Some item → Fetched P.File.tells (P.File.bytes table.now.file) table.now.row table.now.items.items index item count loan.new) }
-    ensures damaged { IfDamage result (IsDamage P.File.tells (P.File.bytes table.now.file) table.now.row table.now.items.items) }
-    ensures files { P.table_files port.new ≡ P.table_files port.old }
-    ensures once { P.reads port.new ≤ P.reads port.old + 1 }
-    ensures steady { P.steady port.old → P.steady port.new }
+    requires { index < length table.now.items }
+    ensures fetched { IfOk result (λ count. Fetched P.File.TableHandle table.now index count loan.new) }
+    ensures damaged { IfDamage result (IsDamageOf P.File.TableHandle table.now) }
+    ensures port { ReadsAtMost P.Port 1 port.old port.new (result ≡ Err faults.Fault) }
     ensures sure { P.steady port.old → result ≡ Err faults.Fault → ⊥ }
-    ensures later { P.faults port.old ≤ P.faults port.new }
-    ensures cause { result ≡ Err faults.Fault → Rose (P.faults port.old) (P.faults port.new) }
 {
     let (at, len, _, _) = table.item(index);
     let len = len as usize;
@@ -74,9 +71,6 @@ pub fn fetch<P: Port>(
         table: table.row().number,
         at,
     };
-    if len > 40_960 {
-        return Err(damaged);
-    }
     let read = match read_into(port, table.file(), at, len, loan) {
         Ok(read) => read,
         Err(_) => return Err(ReadFault::Fault),

@@ -6,10 +6,12 @@
 
 mod agreeing;
 mod fetching;
+mod laws;
 mod page;
 mod step;
 mod table_cursor;
 #[cfg(test)]
 mod tests;
 
+pub use laws::{law_walk_ascends, law_walk_ends, law_walk_told};
 pub use table_cursor::TableCursor;

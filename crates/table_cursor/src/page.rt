@@ -6,9 +6,10 @@ ghost use Rattle.peb_base.specs.Entries.{first_from};
 ghost use Rattle.peb_base.specs.declared.entry.Entry.{Entry};
 ghost use Rattle.block_form.specs.Form.{IsBlock};
 ghost use Rattle.block_form.specs.Walks.{entries_in};
-ghost use Rattle.disk_model.specs.Images.{Rose};
+ghost use Rattle.peb_base.specs.Cursors.{IfDamage};
+ghost use Rattle.table_file.specs.Ports.{ReadsAtMost};
 ghost use Rattle.peb_base.specs.declared.read_fault.ReadFault.TheVariants as faults;
-ghost use Rattle.table_cursor.specs.Agreeing.{IfDamage, IsDamage};
+ghost use Rattle.table_cursor.specs.Agreeing.{IsDamageOf};
 
 use crate::fetching::fetch;
 use block_form::{Block, block_reads, one_block};
@@ -55,7 +56,7 @@ fn block_in(loan: &Loan, len: usize, count: usize) -> Block<'_>
 }
 
 impl Page {
-    ghost use Rattle.table_cursor.specs.Agreeing.{Shows};
+    ghost use Rattle.table_cursor.specs.Agreeing.{ShowsOf};
 
     /// A page on which nothing is read.
     pub fn new(loan: Loan) -> Page
@@ -123,18 +124,16 @@ impl Page {
         port: &mut P,
         index: usize,
     ) -> Result<(), ReadFault>
-        requires { index < length table.now.items.items }
-        ensures shows { OnOk result (Shows P.File.tells (P.File.bytes table.now.file) table.now.row table.now.items.items index self.new) }
+        requires { index < length table.now.items }
+        // what it leaves
+        ensures shows { OnOk result (ShowsOf P.File.TableHandle table.now index self.new) }
         ensures form { OnOk result (IsBlock self.new.entries self.new.bytes) }
         ensures first { OnOk result (self.new.place ≡ 0) }
         ensures empty { OnErr result (self.new.entries ≡ []) }
-        ensures damaged { IfDamage result (IsDamage P.File.tells (P.File.bytes table.now.file) table.now.row table.now.items.items) }
-        ensures files { P.table_files port.new ≡ P.table_files port.old }
-        ensures once { P.reads port.new ≤ P.reads port.old + 1 }
-        ensures steady { P.steady port.old → P.steady port.new }
+        // when it fails
+        ensures damaged { IfDamage result (IsDamageOf P.File.TableHandle table.now) }
+        ensures port { ReadsAtMost P.Port 1 port.old port.new (result ≡ Err faults.Fault) }
         ensures sure { P.steady port.old → result ≡ Err faults.Fault → ⊥ }
-        ensures later { P.faults port.old ≤ P.faults port.new }
-        ensures cause { result ≡ Err faults.Fault → Rose (P.faults port.old) (P.faults port.new) }
     {
         self.count = 0;
         let count = match fetch(table, port, index, &mut self.loan) {

@@ -1,16 +1,21 @@
 //! Cursors over sorted tables.
 
-ghost use Rattle.std.specs.Prelude.{◌≡◌, ◌↔◌, ◌≤◌, ◌<◌, ◌+◌, ℕ, List, [], Option, IsTrue, IsNone, IsOk, IfSome, OnErr, None, Err, length, nat_eq};
+ghost use Rattle.std.specs.Prelude.{◌≡◌, ◌↔◌, ◌<◌, ◌+◌, ◌-◌, ℕ, List, [], Option, IsTrue, IsNone, IsOk, IfSome, OnOk, OnErr, None, Err, length};
 ghost use Rattle.std.specs.Arc.{arc_value};
-ghost use Rattle.peb_base.specs.Cursors.{next_place, previous_place, last_place, place_from, Goes};
-ghost use Rattle.peb_base.specs.Entries.{first_from};
+ghost use Rattle.peb_base.specs.Cursors.{next_place, previous_place, last_place, place_from, LeadsTo, IfDamage};
+ghost use Rattle.peb_base.specs.Entries.{AreSorted, first_from};
 ghost use Rattle.peb_base.specs.declared.entry.Entry.{Entry};
 ghost use Rattle.peb_base.specs.declared.read_fault.ReadFault.TheVariants as faults;
 ghost use Rattle.table_file.specs.Form.{blocks_of};
 ghost use Rattle.table_file.specs.Items.{index_for};
-ghost use Rattle.table_cursor.specs.Agreeing.{ShowsOf, IsDamageOf, IfDamage};
-ghost use Rattle.table_cursor.specs.Standing.{HoldsIn, OnPage};
-ghost use Rattle.table_cursor.specs.Steps.{target, Fits, Costs};
+ghost use Rattle.table_file.specs.Ports.{ReadsAtMost};
+ghost use Rattle.table_file.specs.Tables.{Holds};
+ghost use Rattle.table_cursor.specs.Agreeing.{ShowsOf, IsDamageOf};
+ghost use Rattle.table_cursor.specs.Page.{Reading};
+ghost use Rattle.table_cursor.specs.Spots.{spot, first_spot, last_spot, next_spot, previous_spot, found_spot, spot_after};
+ghost use Rattle.table_cursor.specs.Standing.{OnPage};
+ghost use Rattle.table_cursor.specs.Steps.{target, Fits};
+ghost use Rattle.table_cursor.specs.WalkLaws.{AscendFrom-prop};
 
 use crate::page::Page;
 use crate::step::Step;
@@ -30,20 +35,20 @@ pub struct TableCursor<P: Port> {
     /// The index of the block on the page.
     index: usize,
     refused: Option<ReadFault>,
-    ghost shows: { 0 < length page.entries → ShowsOf (arc_value table) index page },
+    ghost shown: { 0 < length page.entries → ShowsOf P.File.TableHandle (arc_value table) index page },
+    ghost sorted: { AreSorted page.entries } by { AscendFrom-prop [] 0 page.entries },
 }
 
 impl<P: Port> TableCursor<P> {
-    ghost use Rattle.table_cursor.specs.Standing.{StandsAt};
+    ghost use Rattle.table_cursor.specs.Views.{table_of, port_of, page_of, index_of, refused_of, shown_by, spot_of, StandsIn};
 
     /// A cursor over the entries of a table, at no place. It makes no read yet, and no call of it takes memory.
     pub fn open(table: Arc<Table<P::File>, Global>, port: P, loan: Loan) -> TableCursor<P>
-        ensures stands { (es : List Entry) → IsTrue P.File.tells → HoldsIn (arc_value table) es
-            → StandsAt (arc_value result.table) result.page result.index es None }
-        ensures table { result.table ≡ table }
-        ensures port { result.port ≡ port }
-        ensures nowhere { result.page.entries ≡ [] }
-        ensures refused { result.refused ≡ None }
+        ensures stands { (es : List Entry) → IsTrue P.File.tells → Holds P.File.TableHandle (arc_value table) es → StandsIn result es None }
+        ensures table { table_of result ≡ arc_value table }
+        ensures port { port_of result ≡ port }
+        ensures nowhere { (spot_of result ≡ None) × (shown_by result ≡ None) }
+        ensures refused { refused_of result ≡ None }
     {
         law_blocks();
         TableCursor {
@@ -57,8 +62,9 @@ impl<P: Port> TableCursor<P> {
 
     /// The place in the file, in bytes, of the block that has the entry at which the cursor stands; None exactly at no place.
     pub fn place(&self) -> Option<u64>
-        ensures none { IsNone result ↔ (length self.now.page.entries ≡ 0) }
-        ensures block { IfSome result (λ at. (at ≡ self.now.page.at) × ShowsOf (arc_value self.now.table) self.now.index self.now.page) }
+        ensures none { IsNone result ↔ (spot_of self.now ≡ None) }
+        ensures block { IfSome result (λ at. (at ≡ (page_of self.now).at)
+            × ShowsOf P.File.TableHandle (table_of self.now) (index_of self.now) (page_of self.now)) }
     {
         if self.page.is_empty() {
             return None;
@@ -68,8 +74,8 @@ impl<P: Port> TableCursor<P> {
 
     /// Gives the table, the port and the loan back.
     pub fn close(self) -> (Arc<Table<P::File>, Global>, P, Loan)
-        ensures table { result.0 ≡ self.table }
-        ensures port { result.1 ≡ self.port }
+        ensures table { arc_value result.0 ≡ table_of self }
+        ensures port { result.1 ≡ port_of self }
     {
         let TableCursor {
             table,
@@ -81,12 +87,22 @@ impl<P: Port> TableCursor<P> {
         (table, port, page.into_loan())
     }
 
+    /// How many blocks the table has, at least one.
+    pub fn blocks(&self) -> usize
+        ensures count { result ≡ length (table_of self.now).items }
+        ensures some { 0 < length (table_of self.now).items }
+    {
+        self.table.blocks()
+    }
+
     /// One entry on.
     fn next_step(&self) -> Step
         ensures fits { Fits result self.now.page }
         ensures stays { length self.now.page.entries ≡ 0 → result ≡ Step.Nowhere }
-        ensures leads { (es : List Entry) → (holds : HoldsIn (arc_value self.now.table) es) → (place : Option ℕ) → OnPage self.now.page self.now.index (blocks_of holds.full es) es place
+        ensures leads { (es : List Entry) → (holds : Holds P.File.TableHandle (arc_value self.now.table) es) → (place : Option ℕ) → OnPage self.now.page self.now.index (blocks_of holds.full es) es place
             → target result self.now.index (blocks_of holds.full es) ≡ next_place es place }
+        ensures lands { (now : Reading) → spot_after result (arc_value self.now.table).items self.now.index now ≡ next_spot (arc_value self.now.table).items self.now.index self.now.page }
+        ensures within { self.now.page.place + 1 < length self.now.page.entries → result ≡ Step.Within (self.now.page.place + 1) }
     {
         if self.page.is_empty() {
             return Step::Nowhere;
@@ -106,8 +122,10 @@ impl<P: Port> TableCursor<P> {
     fn previous_step(&self) -> Step
         ensures fits { Fits result self.now.page }
         ensures stays { length self.now.page.entries ≡ 0 → result ≡ Step.Nowhere }
-        ensures leads { (es : List Entry) → (holds : HoldsIn (arc_value self.now.table) es) → (place : Option ℕ) → OnPage self.now.page self.now.index (blocks_of holds.full es) es place
+        ensures leads { (es : List Entry) → (holds : Holds P.File.TableHandle (arc_value self.now.table) es) → (place : Option ℕ) → OnPage self.now.page self.now.index (blocks_of holds.full es) es place
             → target result self.now.index (blocks_of holds.full es) ≡ previous_place place }
+        ensures lands { (now : Reading) → spot_after result (arc_value self.now.table).items self.now.index now ≡ previous_spot (arc_value self.now.table).items self.now.index self.now.page now }
+        ensures within { 0 < self.now.page.place → 0 < length self.now.page.entries → result ≡ Step.Within (self.now.page.place - 1) }
     {
         if self.page.is_empty() {
             return Step::Nowhere;
@@ -125,27 +143,25 @@ impl<P: Port> TableCursor<P> {
     /// To the last entry.
     fn last_step(&self) -> Step
         ensures fits { Fits result self.now.page }
-        ensures leads { (es : List Entry) → (holds : HoldsIn (arc_value self.now.table) es)
+        ensures leads { (es : List Entry) → (holds : Holds P.File.TableHandle (arc_value self.now.table) es)
             → target result self.now.index (blocks_of holds.full es) ≡ last_place es }
+        ensures lands { (now : Reading) → spot_after result (arc_value self.now.table).items self.now.index now ≡ last_spot (arc_value self.now.table).items (length (arc_value self.now.table).items - 1) now }
     {
         law_blocks();
-        let blocks = self.table.blocks();
-        if blocks == 0 {
-            return Step::Nowhere;
-        }
-        Step::Last(blocks - 1)
+        Step::Last(self.table.blocks() - 1)
     }
 
     /// Shows the first entry of the block at an index, or nothing where there is none.
     fn show(&mut self, index: usize) -> Result<(), ReadFault>
-        ensures leads { (es : List Entry) → (holds : HoldsIn (arc_value self.old.table) es)
-            → IsTrue P.File.tells → Goes (OnPage self.new.page self.new.index (blocks_of holds.full es) es) (target (Step.First index) self.old.index (blocks_of holds.full es)) result }
+        ensures leads { (es : List Entry) → (holds : Holds P.File.TableHandle (arc_value self.old.table) es)
+            → IsTrue P.File.tells → LeadsTo (OnPage self.new.page self.new.index (blocks_of holds.full es) es) (target (Step.First index) self.old.index (blocks_of holds.full es)) result }
         ensures index { self.new.index ≡ index }
+        ensures lands { OnOk result (spot self.new.index self.new.page ≡ first_spot (arc_value self.old.table).items index) }
         ensures table { self.new.table ≡ self.old.table }
         ensures nothing { OnErr result (self.new.page.entries ≡ []) }
-        ensures damaged { IfDamage result (IsDamageOf (arc_value self.old.table)) }
-        ensures costs { Costs (P.reads self.old.port) (P.reads self.new.port) (P.faults self.old.port) (P.faults self.new.port) (P.table_files self.old.port) (P.table_files self.new.port) result }
-        ensures steady { P.steady self.old.port → P.steady self.new.port × (result ≡ Err faults.Fault → ⊥) }
+        ensures damaged { IfDamage result (IsDamageOf P.File.TableHandle (arc_value self.old.table)) }
+        ensures port { ReadsAtMost P.Port 1 self.old.port self.new.port (result ≡ Err faults.Fault) }
+        ensures sure { P.steady self.old.port → result ≡ Err faults.Fault → ⊥ }
     {
         law_blocks();
         one_block();
@@ -159,13 +175,14 @@ impl<P: Port> TableCursor<P> {
 
     /// Shows the last entry of the block at an index, or nothing where there is none.
     fn show_last(&mut self, index: usize) -> Result<(), ReadFault>
-        ensures leads { (es : List Entry) → (holds : HoldsIn (arc_value self.old.table) es)
-            → IsTrue P.File.tells → Goes (OnPage self.new.page self.new.index (blocks_of holds.full es) es) (target (Step.Last index) self.old.index (blocks_of holds.full es)) result }
+        ensures leads { (es : List Entry) → (holds : Holds P.File.TableHandle (arc_value self.old.table) es)
+            → IsTrue P.File.tells → LeadsTo (OnPage self.new.page self.new.index (blocks_of holds.full es) es) (target (Step.Last index) self.old.index (blocks_of holds.full es)) result }
+        ensures lands { OnOk result (spot self.new.index self.new.page ≡ last_spot (arc_value self.old.table).items index self.new.page) }
         ensures table { self.new.table ≡ self.old.table }
         ensures nothing { OnErr result (self.new.page.entries ≡ []) }
-        ensures damaged { IfDamage result (IsDamageOf (arc_value self.old.table)) }
-        ensures costs { Costs (P.reads self.old.port) (P.reads self.new.port) (P.faults self.old.port) (P.faults self.new.port) (P.table_files self.old.port) (P.table_files self.new.port) result }
-        ensures steady { P.steady self.old.port → P.steady self.new.port × (result ≡ Err faults.Fault → ⊥) }
+        ensures damaged { IfDamage result (IsDamageOf P.File.TableHandle (arc_value self.old.table)) }
+        ensures port { ReadsAtMost P.Port 1 self.old.port self.new.port (result ≡ Err faults.Fault) }
+        ensures sure { P.steady self.old.port → result ≡ Err faults.Fault → ⊥ }
     {
         match self.show(index) {
             Ok(()) => {}
@@ -181,13 +198,16 @@ impl<P: Port> TableCursor<P> {
     fn go(&mut self, step: Step) -> Result<(), ReadFault>
         requires { Fits step self.old.page }
         ensures stays { step ≡ Step.Nowhere → IsOk result × (self.new.page.entries ≡ []) }
-        ensures leads { (es : List Entry) → (holds : HoldsIn (arc_value self.old.table) es) → (place : Option ℕ) → OnPage self.old.page self.old.index (blocks_of holds.full es) es place
-            → IsTrue P.File.tells → Goes (OnPage self.new.page self.new.index (blocks_of holds.full es) es) (target step self.old.index (blocks_of holds.full es)) result }
+        ensures lands { OnOk result (spot self.new.index self.new.page ≡ spot_after step (arc_value self.old.table).items self.old.index self.new.page) }
+        ensures within { (place : ℕ) → step ≡ Step.Within place →
+            IsOk result × (self.new.page ≡ record self.old.page { place = place }) × (self.new.index ≡ self.old.index) × (self.new.port ≡ self.old.port) }
+        ensures leads { (es : List Entry) → (holds : Holds P.File.TableHandle (arc_value self.old.table) es) → (place : Option ℕ) → OnPage self.old.page self.old.index (blocks_of holds.full es) es place
+            → IsTrue P.File.tells → LeadsTo (OnPage self.new.page self.new.index (blocks_of holds.full es) es) (target step self.old.index (blocks_of holds.full es)) result }
         ensures table { self.new.table ≡ self.old.table }
         ensures nothing { OnErr result (self.new.page.entries ≡ []) }
-        ensures damaged { IfDamage result (IsDamageOf (arc_value self.old.table)) }
-        ensures costs { Costs (P.reads self.old.port) (P.reads self.new.port) (P.faults self.old.port) (P.faults self.new.port) (P.table_files self.old.port) (P.table_files self.new.port) result }
-        ensures steady { P.steady self.old.port → P.steady self.new.port × (result ≡ Err faults.Fault → ⊥) }
+        ensures damaged { IfDamage result (IsDamageOf P.File.TableHandle (arc_value self.old.table)) }
+        ensures port { ReadsAtMost P.Port 1 self.old.port self.new.port (result ≡ Err faults.Fault) }
+        ensures sure { P.steady self.old.port → result ≡ Err faults.Fault → ⊥ }
     {
         match step {
             Step::Nowhere => {
@@ -206,7 +226,7 @@ impl<P: Port> TableCursor<P> {
     /// The place on the page of the first entry at or behind a key and number, which is in the block by the index.
     fn found(&self, key: &[u8], number: Number) -> usize
         requires some { 0 < length self.now.page.entries }
-        requires here { self.now.index ≡ index_for key.now number (arc_value self.now.table).items.items }
+        requires here { self.now.index ≡ index_for key.now number (arc_value self.now.table).items }
         ensures place { result ≡ first_from key.now number self.now.page.entries }
         ensures inside { result < length self.now.page.entries }
     {
@@ -215,13 +235,14 @@ impl<P: Port> TableCursor<P> {
 
     /// Goes to the first entry at or behind this key and number, or to no place where all come before.
     fn go_to(&mut self, key: &[u8], number: Number) -> Result<(), ReadFault>
-        ensures leads { (es : List Entry) → (holds : HoldsIn (arc_value self.old.table) es)
-            → IsTrue P.File.tells → Goes (OnPage self.new.page self.new.index (blocks_of holds.full es) es) (place_from key.now number es) result }
+        ensures leads { (es : List Entry) → (holds : Holds P.File.TableHandle (arc_value self.old.table) es)
+            → IsTrue P.File.tells → LeadsTo (OnPage self.new.page self.new.index (blocks_of holds.full es) es) (place_from key.now number es) result }
+        ensures lands { OnOk result (spot self.new.index self.new.page ≡ found_spot (arc_value self.old.table).items key.now number self.new.page) }
         ensures table { self.new.table ≡ self.old.table }
         ensures nothing { OnErr result (self.new.page.entries ≡ []) }
-        ensures damaged { IfDamage result (IsDamageOf (arc_value self.old.table)) }
-        ensures costs { Costs (P.reads self.old.port) (P.reads self.new.port) (P.faults self.old.port) (P.faults self.new.port) (P.table_files self.old.port) (P.table_files self.new.port) result }
-        ensures steady { P.steady self.old.port → P.steady self.new.port × (result ≡ Err faults.Fault → ⊥) }
+        ensures damaged { IfDamage result (IsDamageOf P.File.TableHandle (arc_value self.old.table)) }
+        ensures port { ReadsAtMost P.Port 1 self.old.port self.new.port (result ≡ Err faults.Fault) }
+        ensures sure { P.steady self.old.port → result ≡ Err faults.Fault → ⊥ }
     {
         law_blocks();
         let index = self.table.block_index(key, number);
@@ -239,42 +260,72 @@ impl<P: Port> TableCursor<P> {
 }
 
 impl<P: Port> Cursor for TableCursor<P> {
-    ghost use Rattle.std.specs.Prelude.{◌≡◌, ◌↔◌, ◌≤◌, ◌+◌, ℕ, List, Option, true, IsNone, IsOk, IfSome, OnErr, Err, length, nat_eq, option_map};
+    ghost use Rattle.std.specs.Prelude.{◌≡◌, ◌<◌, ◌+◌, ◌-◌, ◌++◌, ◌∷◌, [], ℕ, List, Option, Some, None, IsOk, IfSome, OnOk, OnErr, Err, length, option_map};
     ghost use Rattle.std.specs.Arc.{arc_value};
-    ghost use Rattle.peb_base.specs.Cursors.{place_from, first_place, last_place, next_place, previous_place, entry_at, Goes, OnFault, refusal};
+    ghost use Rattle.peb_base.specs.Cursors.{place_from, first_place, last_place, next_place, previous_place, LeadsTo, CountsFaults, IfDamage, refusal};
     ghost use Rattle.peb_base.specs.EntryRefs.{entry_of};
-    ghost use Rattle.peb_base.specs.Faults.{Rose};
     ghost use Rattle.peb_base.specs.declared.entry.Entry.{Entry};
     ghost use Rattle.peb_base.specs.declared.read_fault.ReadFault.TheVariants as faults;
-    ghost use Rattle.table_cursor.specs.Agreeing.{IsOfBlock, IsDamageOf, IfDamage};
-    ghost use Rattle.table_cursor.specs.Standing.{StandsAt};
+    ghost use Rattle.table_file.specs.Ports.{ReadsAtMost};
+    ghost use Rattle.table_cursor.specs.Spots.{first_spot, last_spot, next_spot, previous_spot, found_spot};
     ghost use Rattle.table_cursor.specs.StandingLaws.{stands_among};
+    ghost use Rattle.table_cursor.specs.Views.{table_of, port_of, page_of, index_of, refused_of, blocks_in, shown_by, spot_of, ahead_of, back_of, size_of, StandsIn, WalksIn, DamageIn, IsOfTable, Keeps, keeps_self, keeps_on};
+    ghost use Rattle.table_cursor.specs.Walking.{most_steps};
+    ghost use Rattle.table_cursor.specs.WalkLaws.{entry_within, walk_ascends, steps_bounded};
 
-    ghost stands = { λ cursor es place. StandsAt (arc_value cursor.table) cursor.page cursor.index es place };
+    ghost stands = { λ cursor es place. StandsIn cursor es place };
 
-    ghost is_nowhere = { λ cursor. nat_eq (length cursor.page.entries) 0 };
+    ghost shows = { λ cursor. shown_by cursor };
 
-    ghost faults = { λ cursor. P.faults cursor.port };
+    ghost walks = { λ cursor es. WalksIn cursor es };
 
-    ghost refused = { λ cursor. cursor.refused };
+    ghost ahead = { λ cursor. ahead_of cursor };
 
-    ghost among = { λ cursor es place stands. stands_among cursor.page cursor.index es place stands (λ some. (cursor.shows some).inside) };
+    ghost back = { λ cursor. back_of cursor };
+
+    ghost size = { λ cursor. size_of cursor };
+
+    ghost keeps = { λ a b. Keeps a b };
+
+    ghost damaged = { λ cursor table at. DamageIn cursor table at };
+
+    ghost faults = { λ cursor. P.faults (port_of cursor) };
+
+    ghost refused = { λ cursor. refused_of cursor };
+
+    ghost among = { λ cursor es place stands. stands_among P.File.TableHandle (table_of cursor) (page_of cursor) (index_of cursor) es place stands (λ some. (cursor.shown some).inside) };
+
+    ghost within = { λ cursor e there. entry_within [] 0 (page_of cursor).entries (page_of cursor).place e cursor.sorted there };
+
+    ghost ascends = { λ cursor es e walks there. walk_ascends P.File.TableHandle (table_of cursor) (index_of cursor) (page_of cursor) es e cursor.shown cursor.sorted walks.over there };
+
+    ghost bounded = { λ cursor. steps_bounded P.File.TableHandle (table_of cursor) (index_of cursor) (page_of cursor) cursor.shown };
+
+    ghost kept = { λ cursor. keeps_self cursor };
+
+    ghost kept_on = { λ a b c x y. keeps_on a b c x y };
+
+    ghost kept_size = { λ a b x i. most_steps (length (arc_value (x.table i)).items) };
 
     /// Goes to the first entry at or behind this key and number, or to no place where all come before, with one read at most.
     ///
     /// `Damaged` comes only where no bytes of a block that agrees with the table's index and row stand at the place that it tells.
     fn seek(&mut self, key: &[u8], number: Number) -> Result<(), ReadFault>
-        ensures goes { (es : List Entry) (place : Option ℕ) → StandsAt (arc_value self.old.table) self.old.page self.old.index es place
-            → Goes (StandsAt (arc_value self.new.table) self.new.page self.new.index es) (place_from key.now number es) result }
-        ensures nowhere { OnErr result (nat_eq (length self.new.page.entries) 0 ≡ true) }
-        ensures refused { self.new.refused ≡ refusal result }
-        ensures later { P.faults self.old.port ≤ P.faults self.new.port }
-        ensures cause { OnFault result (Rose (P.faults self.old.port) (P.faults self.new.port)) }
-        ensures damaged { IfDamage result (IsDamageOf (arc_value self.old.table)) }
-        ensures reads { P.reads self.new.port ≤ P.reads self.old.port + 1 }
-        ensures steady { P.steady self.old.port → P.steady self.new.port × (result ≡ Err faults.Fault → ⊥) }
-        ensures files { P.table_files self.new.port ≡ P.table_files self.old.port }
-        ensures table { self.new.table ≡ self.old.table }
+        // what it gives
+        ensures goes { (es : List Entry) (place : Option ℕ)
+            → StandsIn self.old es place
+            → LeadsTo (StandsIn self.new es) (place_from key.now number es) result }
+        ensures lands { OnOk result (spot_of self.new ≡ found_spot (table_of self.old).items key.now number (page_of self.new)) }
+        // what it leaves
+        ensures nothing { OnErr result (shown_by self.new ≡ None) }
+        ensures refused { refused_of self.new ≡ refusal result }
+        // when it fails
+        ensures counts { CountsFaults (P.faults (port_of self.old)) (P.faults (port_of self.new)) result }
+        ensures damage { IfDamage result (DamageIn self.new) }
+        ensures sure { P.steady (port_of self.old) → result ≡ Err faults.Fault → ⊥ }
+        // what stays
+        ensures port { ReadsAtMost P.Port 1 (port_of self.old) (port_of self.new) (result ≡ Err faults.Fault) }
+        ensures keeps { Keeps self.old self.new }
     {
         let moved = self.go_to(key, number);
         self.refused = moved.err();
@@ -282,17 +333,22 @@ impl<P: Port> Cursor for TableCursor<P> {
     }
 
     fn first(&mut self) -> Result<(), ReadFault>
-        ensures goes { (es : List Entry) (place : Option ℕ) → StandsAt (arc_value self.old.table) self.old.page self.old.index es place
-            → Goes (StandsAt (arc_value self.new.table) self.new.page self.new.index es) (first_place es) result }
-        ensures nowhere { OnErr result (nat_eq (length self.new.page.entries) 0 ≡ true) }
-        ensures refused { self.new.refused ≡ refusal result }
-        ensures later { P.faults self.old.port ≤ P.faults self.new.port }
-        ensures cause { OnFault result (Rose (P.faults self.old.port) (P.faults self.new.port)) }
-        ensures damaged { IfDamage result (IsDamageOf (arc_value self.old.table)) }
-        ensures reads { P.reads self.new.port ≤ P.reads self.old.port + 1 }
-        ensures steady { P.steady self.old.port → P.steady self.new.port × (result ≡ Err faults.Fault → ⊥) }
-        ensures files { P.table_files self.new.port ≡ P.table_files self.old.port }
-        ensures table { self.new.table ≡ self.old.table }
+        // what it gives
+        ensures goes { (es : List Entry) (place : Option ℕ)
+            → StandsIn self.old es place
+            → LeadsTo (StandsIn self.new es) (first_place es) result }
+        ensures lands { OnOk result (spot_of self.new ≡ first_spot (table_of self.old).items 0) }
+        ensures walks { OnOk result (WalksIn self.new []) }
+        // what it leaves
+        ensures nothing { OnErr result (shown_by self.new ≡ None) }
+        ensures refused { refused_of self.new ≡ refusal result }
+        // when it fails
+        ensures counts { CountsFaults (P.faults (port_of self.old)) (P.faults (port_of self.new)) result }
+        ensures damage { IfDamage result (DamageIn self.new) }
+        ensures sure { P.steady (port_of self.old) → result ≡ Err faults.Fault → ⊥ }
+        // what stays
+        ensures port { ReadsAtMost P.Port 1 (port_of self.old) (port_of self.new) (result ≡ Err faults.Fault) }
+        ensures keeps { Keeps self.old self.new }
     {
         let moved = self.show(0);
         self.refused = moved.err();
@@ -300,17 +356,21 @@ impl<P: Port> Cursor for TableCursor<P> {
     }
 
     fn last(&mut self) -> Result<(), ReadFault>
-        ensures goes { (es : List Entry) (place : Option ℕ) → StandsAt (arc_value self.old.table) self.old.page self.old.index es place
-            → Goes (StandsAt (arc_value self.new.table) self.new.page self.new.index es) (last_place es) result }
-        ensures nowhere { OnErr result (nat_eq (length self.new.page.entries) 0 ≡ true) }
-        ensures refused { self.new.refused ≡ refusal result }
-        ensures later { P.faults self.old.port ≤ P.faults self.new.port }
-        ensures cause { OnFault result (Rose (P.faults self.old.port) (P.faults self.new.port)) }
-        ensures damaged { IfDamage result (IsDamageOf (arc_value self.old.table)) }
-        ensures reads { P.reads self.new.port ≤ P.reads self.old.port + 1 }
-        ensures steady { P.steady self.old.port → P.steady self.new.port × (result ≡ Err faults.Fault → ⊥) }
-        ensures files { P.table_files self.new.port ≡ P.table_files self.old.port }
-        ensures table { self.new.table ≡ self.old.table }
+        // what it gives
+        ensures goes { (es : List Entry) (place : Option ℕ)
+            → StandsIn self.old es place
+            → LeadsTo (StandsIn self.new es) (last_place es) result }
+        ensures lands { OnOk result (spot_of self.new ≡ last_spot (table_of self.old).items (blocks_in self.old - 1) (page_of self.new)) }
+        // what it leaves
+        ensures nothing { OnErr result (shown_by self.new ≡ None) }
+        ensures refused { refused_of self.new ≡ refusal result }
+        // when it fails
+        ensures counts { CountsFaults (P.faults (port_of self.old)) (P.faults (port_of self.new)) result }
+        ensures damage { IfDamage result (DamageIn self.new) }
+        ensures sure { P.steady (port_of self.old) → result ≡ Err faults.Fault → ⊥ }
+        // what stays
+        ensures port { ReadsAtMost P.Port 1 (port_of self.old) (port_of self.new) (result ≡ Err faults.Fault) }
+        ensures keeps { Keeps self.old self.new }
     {
         let step = self.last_step();
         let moved = self.go(step);
@@ -318,19 +378,33 @@ impl<P: Port> Cursor for TableCursor<P> {
         moved
     }
 
+    /// Goes one entry on, or to no place behind the last. Within a block it makes no read.
     fn next(&mut self) -> Result<(), ReadFault>
-        ensures goes { (es : List Entry) (place : Option ℕ) → StandsAt (arc_value self.old.table) self.old.page self.old.index es place
-            → Goes (StandsAt (arc_value self.new.table) self.new.page self.new.index es) (next_place es place) result }
-        ensures stays { nat_eq (length self.old.page.entries) 0 ≡ true → IsOk result × (nat_eq (length self.new.page.entries) 0 ≡ true) }
-        ensures nowhere { OnErr result (nat_eq (length self.new.page.entries) 0 ≡ true) }
-        ensures refused { self.new.refused ≡ refusal result }
-        ensures later { P.faults self.old.port ≤ P.faults self.new.port }
-        ensures cause { OnFault result (Rose (P.faults self.old.port) (P.faults self.new.port)) }
-        ensures damaged { IfDamage result (IsDamageOf (arc_value self.old.table)) }
-        ensures reads { P.reads self.new.port ≤ P.reads self.old.port + 1 }
-        ensures steady { P.steady self.old.port → P.steady self.new.port × (result ≡ Err faults.Fault → ⊥) }
-        ensures files { P.table_files self.new.port ≡ P.table_files self.old.port }
-        ensures table { self.new.table ≡ self.old.table }
+        // what it gives
+        ensures goes { (es : List Entry) (place : Option ℕ)
+            → StandsIn self.old es place
+            → LeadsTo (StandsIn self.new es) (next_place es place) result }
+        ensures lands { OnOk result (spot_of self.new ≡ next_spot (table_of self.old).items (index_of self.old) (page_of self.old)) }
+        ensures within { (page_of self.old).place + 1 < length (page_of self.old).entries → IsOk result × ((port_of self.new) ≡ (port_of self.old))
+            × ((page_of self.new) ≡ record (page_of self.old) { place = (page_of self.old).place + 1 }) }
+        ensures walks { OnOk result ((es : List Entry) (e : Entry) → shown_by self.old ≡ Some e
+            → WalksIn self.old es
+            → WalksIn self.new (es ++ e ∷ [])) }
+        ensures fewer { (e : Entry) → shown_by self.old ≡ Some e
+            → ahead_of self.new
+                < ahead_of self.old }
+        ensures stays { shown_by self.old ≡ None
+            → IsOk result × (shown_by self.new ≡ None) }
+        // what it leaves
+        ensures nothing { OnErr result (shown_by self.new ≡ None) }
+        ensures refused { refused_of self.new ≡ refusal result }
+        // when it fails
+        ensures counts { CountsFaults (P.faults (port_of self.old)) (P.faults (port_of self.new)) result }
+        ensures damage { IfDamage result (DamageIn self.new) }
+        ensures sure { P.steady (port_of self.old) → result ≡ Err faults.Fault → ⊥ }
+        // what stays
+        ensures port { ReadsAtMost P.Port 1 (port_of self.old) (port_of self.new) (result ≡ Err faults.Fault) }
+        ensures keeps { Keeps self.old self.new }
     {
         let step = self.next_step();
         let moved = self.go(step);
@@ -338,19 +412,28 @@ impl<P: Port> Cursor for TableCursor<P> {
         moved
     }
 
+    /// Goes one entry back, or to no place before the first. Within a block it makes no read.
     fn prev(&mut self) -> Result<(), ReadFault>
-        ensures goes { (es : List Entry) (place : Option ℕ) → StandsAt (arc_value self.old.table) self.old.page self.old.index es place
-            → Goes (StandsAt (arc_value self.new.table) self.new.page self.new.index es) (previous_place place) result }
-        ensures stays { nat_eq (length self.old.page.entries) 0 ≡ true → IsOk result × (nat_eq (length self.new.page.entries) 0 ≡ true) }
-        ensures nowhere { OnErr result (nat_eq (length self.new.page.entries) 0 ≡ true) }
-        ensures refused { self.new.refused ≡ refusal result }
-        ensures later { P.faults self.old.port ≤ P.faults self.new.port }
-        ensures cause { OnFault result (Rose (P.faults self.old.port) (P.faults self.new.port)) }
-        ensures damaged { IfDamage result (IsDamageOf (arc_value self.old.table)) }
-        ensures reads { P.reads self.new.port ≤ P.reads self.old.port + 1 }
-        ensures steady { P.steady self.old.port → P.steady self.new.port × (result ≡ Err faults.Fault → ⊥) }
-        ensures files { P.table_files self.new.port ≡ P.table_files self.old.port }
-        ensures table { self.new.table ≡ self.old.table }
+        // what it gives
+        ensures goes { (es : List Entry) (place : Option ℕ)
+            → StandsIn self.old es place
+            → LeadsTo (StandsIn self.new es) (previous_place place) result }
+        ensures lands { OnOk result (spot_of self.new ≡ previous_spot (table_of self.old).items (index_of self.old) (page_of self.old) (page_of self.new)) }
+        ensures within { 0 < (page_of self.old).place → 0 < length (page_of self.old).entries → IsOk result × ((port_of self.new) ≡ (port_of self.old))
+            × ((page_of self.new) ≡ record (page_of self.old) { place = (page_of self.old).place - 1 }) }
+        ensures fewer { (e : Entry) → shown_by self.old ≡ Some e → back_of self.new < back_of self.old }
+        ensures stays { shown_by self.old ≡ None
+            → IsOk result × (shown_by self.new ≡ None) }
+        // what it leaves
+        ensures nothing { OnErr result (shown_by self.new ≡ None) }
+        ensures refused { refused_of self.new ≡ refusal result }
+        // when it fails
+        ensures counts { CountsFaults (P.faults (port_of self.old)) (P.faults (port_of self.new)) result }
+        ensures damage { IfDamage result (DamageIn self.new) }
+        ensures sure { P.steady (port_of self.old) → result ≡ Err faults.Fault → ⊥ }
+        // what stays
+        ensures port { ReadsAtMost P.Port 1 (port_of self.old) (port_of self.new) (result ≡ Err faults.Fault) }
+        ensures keeps { Keeps self.old self.new }
     {
         let step = self.previous_step();
         let moved = self.go(step);
@@ -361,9 +444,8 @@ impl<P: Port> Cursor for TableCursor<P> {
     /// Lends the entry at its place; None exactly at no place. The entry is one of a block that agrees with the table's index and
     /// row, and whose bytes stand in the table's file.
     fn at(&self) -> Option<EntryRef<'_>>
-        ensures shown { (es : List Entry) (place : Option ℕ) → StandsAt (arc_value self.now.table) self.now.page self.now.index es place → option_map entry_of result ≡ entry_at es place }
-        ensures nowhere { IsNone result ↔ (nat_eq (length self.now.page.entries) 0 ≡ true) }
-        ensures agrees { IfSome result (λ entry. IsOfBlock (arc_value self.now.table) (entry_of entry)) }
+        ensures lent { option_map entry_of result ≡ shown_by self.now }
+        ensures agrees { IfSome result (λ entry. IsOfTable self.now (entry_of entry)) }
     {
         if self.page.is_empty() {
             return None;

@@ -7,11 +7,10 @@ ghost use Rattle.peb_base.specs.declared.entry.Entry.{Entry};
 ghost use Rattle.table_file.specs.Writing.{HasPushed};
 
 use crate::TableCursor;
-use crate::agreeing::is_before;
 use block_pool::Pool;
 use disk_model::{Devices, FailPlan, Maker, MemDevices, Plans, Port};
 use peb_base::{
-    ChangeRef, Cursor, EntryRef, Key, Number, Options, Profile, ReadFault, TableRow, Value,
+    ChangeRef, Cursor, EntryRef, Key, Number, Options, Profile, ReadFault, TableRow, Value, is_before,
 };
 use std::alloc::Global;
 use std::sync::Arc;

@@ -1,19 +1,20 @@
 -- Looking through items that ascend.
-use Rattle.std.proofs.Common.{◌≡◌, ℕ, zero, suc, ◌+◌, ◌<◌, ◌≤◌, Bool, true, false, List, [], ◌∷◌, length, get_or, Some, None, refl, sym, ap, ◌∙◌, subst, arith}
-use Rattle.std.specs.Prelude.{if◌then◌else◌, slice_get, option_map}
+use Rattle.std.proofs.Common.{◌≡◌, ℕ, zero, suc, ◌+◌, ◌<◌, ◌≤◌, Bool, true, false, List, [], ◌∷◌, ◌++◌, length, get_or, Some, None, refl, sym, ap, ◌∙◌, subst, arith}
+use Rattle.std.specs.Prelude.{if◌then◌else◌, nat_le, slice_get, option_map}
 use Rattle.std.specs.List.{AllWithin}
 use Rattle.std.proofs.lemmas.Option.{slice_get_read, slice_get_past}
-use Rattle.std.proofs.lemmas.Bool.{and_parts, and_from}
+use Rattle.std.proofs.lemmas.Bool.{and_parts, and_from, le-leb, leb-true}
 use Rattle.peb_base.specs.Entries.{comes_before, AscendFrom, AreSorted}
+use Rattle.peb_base.specs.EntryLaws.{before_trans}
 use Rattle.peb_base.specs.Keys.{Bytes}
 use Rattle.peb_base.specs.Tables.{last_key}
 use Rattle.peb_base.specs.declared.entry.Entry.{Entry}
 use Rattle.block_form.specs.Form.{block_bytes}
 use Rattle.table_file.specs.Form.{cut_of, with_last, blocks_of, last_number, items_from}
-use Rattle.table_file.specs.Items.{ascend_from, ascend, ends_before, index_for, block_for}
+use Rattle.table_file.specs.Items.{ascend_from, ascend, are_short, ends_before, index_for, block_for}
 use Rattle.table_file.specs.Opening.{AreItems, IsIndex}
 use Rattle.table_file.specs.declared.index_item.IndexItem.{IndexItem}
-use Rattle.table_file.specs.Ascending.{after_trans, last_after, front_ascends, rest_ascends}
+use Rattle.table_file.specs.Ascending.{last_after, front_ascends, rest_ascends}
 use Rattle.table_file.proofs.Parting.{joined, HaveEntries, parts_cut}
 
 -- the items of an index ascend
@@ -24,6 +25,31 @@ items_ascend place before above end (item ∷ items) each =
 
 pub index_ascends : (end : ℕ) (items : List IndexItem) → IsIndex end items → ascend items ≡ true
 index_ascends end items index = items_ascend 0 [] 0 end items index.each
+
+-- and none of their blocks is too long
+items_short : (place : ℕ) (before : Bytes) (above end : ℕ) (items : List IndexItem) → AreItems place before above end items → are_short items ≡ true
+items_short place before above end [] each = refl
+items_short place before above end (item ∷ items) each =
+    and_from (nat_le item.len 40960) (are_short items) (le-leb item.len 40960 each.0.len) (items_short (place + item.len) item.key item.number end items each.1)
+
+pub index_short : (end : ℕ) (items : List IndexItem) → IsIndex end items → are_short items ≡ true
+index_short end items index = items_short 0 [] 0 end items index.each
+
+-- one item more
+pub short-push : (items : List IndexItem) (item : IndexItem) → are_short items ≡ true → item.len ≤ 40960 → are_short (items ++ item ∷ []) ≡ true
+short-push [] item all le = and_from (nat_le item.len 40960) true (le-leb item.len 40960 le) refl
+short-push (i ∷ items) item all le =
+    let parts = and_parts (nat_le i.len 40960) (are_short items) all in
+    and_from (nat_le i.len 40960) (are_short (items ++ item ∷ [])) parts.0 (short-push items item parts.1 le)
+
+-- the block of an item is short
+pub short_at : (items : List IndexItem) (index : ℕ) (item : IndexItem) → are_short items ≡ true → slice_get items index ≡ Some item → item.len ≤ 40960
+short_at [] index item all there = cc
+short_at (i ∷ items) zero item all there = subst (λ (x : IndexItem). x.len ≤ 40960) (one_item i item there) (leb-true i.len 40960 (and_parts (nat_le i.len 40960) (are_short items) all).0)
+  where
+    one_item : (a b : IndexItem) → Some a ≡ Some b → a ≡ b
+    one_item a b same = cc
+short_at (i ∷ items) (suc index) item all there = short_at items index item (and_parts (nat_le i.len 40960) (are_short items) all).1 there
 
 -- the items of blocks of entries that ascend ascend
 blocks_ascend : (place : ℕ) (before : Bytes) (above : ℕ) (blocks : List (List Entry)) → AscendFrom before above (joined blocks) → HaveEntries blocks → ascend_from before above (items_from place blocks) ≡ true
@@ -40,6 +66,15 @@ closed_ascend full es begun sorted is =
     let each = blocks_ascend 0 [] 0 (blocks_of full es) (subst AreSorted (sym parts.whole) sorted) parts.each in
     ap (λ b. ascend (items_from 0 (with_last (cut_of full es).closed b))) is ∙ each
 
+-- and there is one, where there are entries
+pub closed_some : (full : ℕ) (es begun : List Entry) → 0 < length es → begun ≡ (cut_of full es).begun → 0 < length (items_from 0 (with_last (cut_of full es).closed begun))
+closed_some full es begun some is =
+    subst (λ b. 0 < length (items_from 0 (with_last (cut_of full es).closed b))) (sym is) (by (blocks_of full es) (parts_cut full es).whole)
+  where
+    by : (blocks : List (List Entry)) → joined blocks ≡ es → 0 < length (items_from 0 blocks)
+    by [] whole = absurd (omega (arith, some, ap length whole))
+    by (b ∷ blocks) whole = omega arith
+
 -- each of items that ascend comes after what they all come after
 is_after : (before : Bytes) (above : ℕ) (items : List IndexItem) → ascend_from before above items ≡ true → (i : ℕ) (d : IndexItem) → i < length items → comes_before before above (get_or items i d).key (get_or items i d).number ≡ true
 is_after before above [] all i d within = absurd (omega (arith, within))
@@ -47,7 +82,7 @@ is_after before above (item ∷ items) all zero d within = (and_parts (comes_bef
 is_after before above (item ∷ items) all (suc i) d within =
     let parts = and_parts (comes_before before above item.key item.number) (ascend_from item.key item.number items) all in
     let there : i < length items = omega (arith, within) in
-    after_trans before above item.key item.number (get_or items i d).key (get_or items i d).number parts.0 (is_after item.key item.number items parts.1 i d there)
+    before_trans before above item.key item.number (get_or items i d).key (get_or items i d).number parts.0 (is_after item.key item.number items parts.1 i d there)
 
 -- the items that come before a key and number stand before those that don't
 pub parted : (key : Bytes) (number : ℕ) (before : Bytes) (above : ℕ) (items : List IndexItem) → ascend_from before above items ≡ true
@@ -58,7 +93,7 @@ parted key number before above (item ∷ items) all (suc i) zero d low within ho
 parted key number before above (item ∷ items) all zero (suc j) d low within holds =
     let parts = and_parts (comes_before before above item.key item.number) (ascend_from item.key item.number items) all in
     let there : j < length items = omega (arith, within) in
-    after_trans item.key item.number (get_or items j d).key (get_or items j d).number key number (is_after item.key item.number items parts.1 j d there) holds
+    before_trans item.key item.number (get_or items j d).key (get_or items j d).number key number (is_after item.key item.number items parts.1 j d there) holds
 parted key number before above (item ∷ items) all (suc i) (suc j) d low within holds =
     let parts = and_parts (comes_before before above item.key item.number) (ascend_from item.key item.number items) all in
     let under : i ≤ j = omega (arith, low) in

@@ -16,6 +16,7 @@ pub record Gathers (index : Index) (hashes : List ℕ) (summary : Summary) (bloc
   pub some : 0 < length es
   pub few : length es ≤ 1717986918
   pub index_is : Indexes index blocks
+  pub blocked : 0 < length (items_from 0 blocks)
   pub ascending : IsTrue (ascend (items_from 0 blocks))
   pub hashes_are : hashes ≡ map (λ e. mixed e.key) es
   pub sums : Sums summary es

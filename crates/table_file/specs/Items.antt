@@ -1,5 +1,5 @@
 -- Looking through an index.
-use Rattle.std.specs.Prelude.{ℕ, suc, Bool, true, ◌&&◌, if◌then◌else◌, List, [], ◌∷◌, Option, Some, None}
+use Rattle.std.specs.Prelude.{ℕ, suc, Bool, true, ◌&&◌, if◌then◌else◌, List, [], ◌∷◌, Option, Some, None, nat_le}
 use Rattle.peb_base.specs.Entries.{comes_before}
 use Rattle.peb_base.specs.Keys.{Bytes}
 use Rattle.table_file.specs.declared.index_item.IndexItem.{IndexItem}
@@ -12,6 +12,11 @@ ascend_from before above (item ∷ items) = comes_before before above item.key i
 -- the last entries of the blocks ascend strictly
 abbrev pub ascend : List IndexItem → Bool
 ascend items = ascend_from [] 0 items
+
+-- no block is longer than 40,960 bytes
+abbrev pub are_short : List IndexItem → Bool
+are_short [] = true
+are_short (item ∷ items) = nat_le item.len 40960 && are_short items
 
 -- the block ends before this key and number
 abbrev pub ends_before : Bytes → ℕ → IndexItem → Bool

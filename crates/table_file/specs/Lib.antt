@@ -3,6 +3,7 @@ pub mod Blocks
 pub mod Damages
 pub mod Form
 pub mod Gathers
+pub mod Holding
 pub mod Indexes
 pub mod Items
 pub mod Limits

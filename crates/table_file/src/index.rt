@@ -1,11 +1,12 @@
 //! The index of a table that is written.
 
-ghost use Rattle.std.specs.Prelude.{◌≡◌, ◌<◌, ◌≤◌, ◌+◌, ◌*◌, ◌^◌, ◌++◌, ◌∷◌, [], List, length, OnOk};
+ghost use Rattle.std.specs.Prelude.{◌≡◌, ◌<◌, ◌≤◌, ◌+◌, ◌*◌, ◌^◌, ◌++◌, ◌∷◌, [], IsTrue, List, length, OnOk};
 ghost use Rattle.peb_base.specs.Answers.{Refuses};
 ghost use Rattle.peb_base.specs.Tables.{last_key};
 ghost use Rattle.peb_base.specs.declared.entry.Entry.{Entry};
 ghost use Rattle.block_form.specs.Form.{block_bytes};
 ghost use Rattle.table_file.specs.Form.{last_number};
+ghost use Rattle.table_file.specs.Items.{are_short};
 ghost use Rattle.table_file.specs.Limits.{index_fault};
 ghost use Rattle.table_file.specs.declared.put_fault.PutFault.TheVariants.{Memory};
 
@@ -26,6 +27,7 @@ pub struct Index {
     bytes: u64,
     ghost few: { 22 * length items.items ≤ bytes },
     ghost short: { bytes ≤ 2 ^ 31 },
+    ghost each: { IsTrue (are_short items.items) },
     ghost within: { end ≤ 40960 * length items.items },
 }
 
@@ -92,6 +94,7 @@ impl Index {
     /// Gives the items up, and begins the index of another table.
     pub fn take(&mut self, alloc: Global) -> Vec<IndexItem>
         ensures items { result.items ≡ self.old.items.items }
+        ensures short { IsTrue (are_short self.old.items.items) }
         ensures next { Indexes self.new [] }
     {
         self.end = 0;

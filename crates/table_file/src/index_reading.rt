@@ -8,9 +8,8 @@ ghost use Rattle.table_file.specs.declared.index_item.IndexItem.{IndexItem};
 use crate::index_fault::IndexFault;
 use crate::index_item::IndexItem;
 use crate::item_fields::{ItemFields, item_at};
-use crate::table::is_before;
 use byteorder::{BigEndian, ByteOrder};
-use peb_base::{Key, KeyBuf, Number};
+use peb_base::{is_before, Key, KeyBuf, Number};
 use std::alloc::Global;
 
 /// Whether these are an item of a block at this place, which ends here at the latest and comes after this key and number.

@@ -6,16 +6,16 @@ ghost use Rattle.peb_base.specs.declared.table_row.TableRow.{TableRow};
 ghost use Rattle.peb_base.specs.Entries.{AreSorted};
 ghost use Rattle.peb_base.specs.Profiles.{Column};
 ghost use Rattle.peb_base.specs.Tables as reckoned;
-ghost use Rattle.peb_base.specs.Tables.{IsRowOf};
 ghost use Rattle.peb_base.specs.declared.entry.Entry.{Entry};
 ghost use Rattle.table_file.specs.Blocks.{AreBlocks};
 ghost use Rattle.table_file.specs.Form.{blocks_of, items_from, index_bytes, key_filter, table_bytes};
 ghost use Rattle.table_file.specs.Opening.{OpensAs};
-ghost use Rattle.table_file.specs.Tables.{IsTableOf, Holds};
+ghost use Rattle.table_file.specs.Holding.{WrittenHolds, OpenedHolds};
 ghost use Rattle.table_file.specs.declared.index_item.IndexItem.{IndexItem};
 
 use block_form::block_grows;
 use bloom::law_filter;
+use disk_model::TableHandle;
 
 /// Bytes are a table of a row with one index and one filter at most.
 pub fn one_opening()
@@ -56,9 +56,9 @@ pub fn law_length()
 }
 
 /// A table that was written holds the entries that were pushed, and so does one that is opened over their bytes.
-pub fn law_holds()
-    ensures written { (tells : Bool) (full number level file : ℕ) (bytes : List ℕ) (row : TableRow) (items : List IndexItem) (filter : List ℕ) (es : List Entry) → 5 < full → full ≤ 4096 → IsTableOf tells number level file bytes row items filter (blocks_of full es) es → Holds tells file bytes row items filter es }
-    ensures opened { (tells : Bool) (full file : ℕ) (bytes : List ℕ) (row : TableRow) (items : List IndexItem) (filter : List ℕ) (es : List Entry) → 5 < full → full ≤ 4096 → AreSorted es → IsRowOf row es → row.tier ≡ 0 → row.bytes < 2 ^ 64 → row.bytes ≡ length (table_bytes full row.number es) → file ≡ row.number → bytes ≡ table_bytes full row.number es → OpensAs row items filter bytes → Holds tells file bytes row items filter es }
+pub fn law_holds<F: TableHandle>()
+    ensures written { WrittenHolds F.TableHandle }
+    ensures opened { OpenedHolds F.TableHandle }
 {
     block_grows();
     law_filter();

@@ -159,7 +159,7 @@ impl<F: TableHandle> Table<F> {
         ensures row { IfOk result (λ table. table.row ≡ row) }
         ensures number { IfOk result (λ table. F.number table.file ≡ row.number) }
         ensures found { IfOk result (λ table. IsTrue F.tells → (P.table_files port.old).sealed row.number ≡ Some (F.bytes table.file)) }
-        ensures opened { IfOk result (λ table. IsTrue F.tells → OpensAs row table.items.items table.filter (F.bytes table.file)) }
+        ensures opened { IfOk result (λ table. IsTrue F.tells → OpensAs row table.items table.filter (F.bytes table.file)) }
         ensures damaged { IfErr result (λ why. IsDamage why → IsTrue F.tells → (bytes : List ℕ) → (P.table_files port.old).sealed row.number ≡ Some bytes → IsNoTable row bytes) }
         ensures table { IfErr result (TellsTable row.number) }
         ensures port { ReadsAtMost P.Port 3 port.old port.new (result ≡ Err Fault) }

@@ -1,14 +1,14 @@
 //! What a row tells of the entries so far.
 
 ghost use Rattle.std.specs.Prelude.{◌≡◌, ◌<◌, ◌≤◌, ◌^◌, ◌++◌, ◌∷◌, [], List, length, IfOk, IfErr};
-ghost use Rattle.peb_base.specs.Entries.{value_of, AreSorted};
-ghost use Rattle.peb_base.specs.EntryRefs.{change_of, entry_of};
+ghost use Rattle.peb_base.specs.Entries.{AreSorted};
+ghost use Rattle.peb_base.specs.EntryRefs.{entry_of};
 ghost use Rattle.peb_base.specs.Tables.{IsRowOf};
 ghost use Rattle.table_file.specs.declared.put_fault.PutFault.TheVariants.{Memory};
 ghost use Rattle.peb_base.specs.declared.entry.Entry.{Entry};
 
 use crate::put_fault::PutFault;
-use peb_base::{ChangeRef, EntryRef, Key, KeyBuf, Number, TableRow};
+use peb_base::{EntryRef, Key, KeyBuf, Number, TableRow};
 use std::alloc::Global;
 
 /// What a row tells of the entries so far, and the number of the last of them.
@@ -21,15 +21,6 @@ pub struct Summary {
     smallest: KeyBuf,
     largest: KeyBuf,
     latest: u64,
-}
-
-fn value_len(change: ChangeRef<'_>) -> usize
-    ensures { result ≡ length (value_of (change_of change.entry)) }
-{
-    match change {
-        ChangeRef::Put(value) => value.len(),
-        ChangeRef::Delete => 0,
-    }
 }
 
 /// Keeps the key, if it is that of the first entry.
@@ -68,7 +59,7 @@ impl Summary {
     {
         put_first(&mut self.smallest, self.entries, entry.key);
         self.entries += 1;
-        self.raw += (entry.key.len() + value_len(entry.change)) as u64;
+        self.raw += (entry.key.len() + entry.change.len()) as u64;
         self.first = self.first.min(entry.number);
         self.last = self.last.max(entry.number);
         self.largest.put(0, entry.key);

@@ -1,38 +1,36 @@
 //! Sorted tables.
 
-ghost use Rattle.std.specs.Prelude.{◌≡◌, ◌<◌, length, IsTrue, slice_get, Some};
+ghost use Rattle.std.specs.Prelude.{◌≡◌, ◌<◌, ◌≤◌, length, IsTrue, slice_get, Some};
 ghost use Rattle.peb_base.specs.Choice as choice;
-ghost use Rattle.peb_base.specs.Entries.{comes_before};
 ghost use Rattle.bloom.specs.Filter.{may_hold};
-ghost use Rattle.table_file.specs.Items.{ascend, block_for, ends_before, index_for};
+ghost use Rattle.table_file.specs.Items.{block_for, ends_before, index_for};
 ghost use Rattle.table_file.specs.Tables.{Holds};
 
 use crate::index_item::IndexItem;
 use bloom::Filter;
 use disk_model::TableHandle;
-use peb_base::{HasRow, Number, TableRow};
-use std::cmp::Ordering;
+use peb_base::{HasRow, Number, TableRow, is_before};
+use std::marker::Model;
 
-/// A sorted table (SSTable): its row, the handle of its file, its index, whose items ascend, and its filter.
+/// A sorted table (SSTable): its row, the handle of its file, its index and its filter; contracts see these four.
+///
+/// Its file has the row's number, it has a block at least, no block by its index is longer than 40,960 bytes, and the last entries of its blocks ascend.
 #[derive(Drop)]
 pub struct Table<F: TableHandle> {
     pub(crate) row: TableRow,
     pub(crate) file: F,
     pub(crate) items: Vec<IndexItem>,
     pub(crate) filter: Filter,
-    pub(crate) ghost ascending: { IsTrue (ascend items.items) },
 }
 
-/// Whether the first key and number come before the second, in entry order.
-#[tactic(auto, using(peb_base::specs::EntryLaws::comes_before_by))]
-pub(crate) fn is_before(key: &[u8], number: u64, later: &[u8], lower: u64) -> bool
-    ensures { result ≡ comes_before key.now number later.now lower }
-{
-    match key.cmp(&later) {
-        Ordering::Less => true,
-        Ordering::Equal => lower < number,
-        Ordering::Greater => false,
-    }
+impl<F: TableHandle> Model for Table<F> {
+    ghost use Rattle.table_file.specs.Tables.{TableParts, IsShaped};
+
+    ghost Value = { TableParts F };
+
+    ghost view = { λ table. record { row = table.row; file = table.file; items = table.items.items; filter = table.filter } };
+
+    ghost invariant = { λ table. IsShaped F.number (record { row = table.row; file = table.file; items = table.items.items; filter = table.filter }) };
 }
 
 impl<F: TableHandle> Table<F> {
@@ -43,25 +41,29 @@ impl<F: TableHandle> Table<F> {
         &self.row
     }
 
-    /// The handle of the table's file.
+    /// The handle of the table's file, which has the row's number.
     pub fn file(&self) -> &F
-        ensures { result.now ≡ self.now.file }
+        ensures file { result.now ≡ self.now.file }
+        ensures number { F.number self.now.file ≡ self.now.row.number }
     {
         &self.file
     }
 
-    /// The number of blocks, which is that of index items.
+    /// The number of blocks, which is that of index items: at least one.
     pub fn blocks(&self) -> usize
-        ensures { result ≡ length self.now.items.items }
+        ensures count { result ≡ length self.now.items }
+        ensures some { 0 < length self.now.items }
     {
         self.items.len()
     }
 
-    /// An index item by its index, below the number of blocks: the block's place and length in bytes, and the key and the
-    /// number of its last entry.
+    /// An index item by its index, below the number of blocks: the block's place and length in bytes, the length at most
+    /// 40,960, and the key and the number of its last entry.
     pub fn item(&self, index: usize) -> (u64, u32, &[u8], Number)
-        requires { index < length self.now.items.items }
-        ensures { slice_get self.now.items.items index ≡ Some (record { place = result.0; len = result.1; key = result.2.now; number = result.3 }) }
+        requires { index < length self.now.items }
+        ensures item { slice_get self.now.items index ≡
+            Some (record { place = result.0; len = result.1; key = result.2.now; number = result.3 }) }
+        ensures short { result.1 ≤ 40960 }
     {
         let item = &self.items[index];
         (item.place, item.len, item.key.bytes(), item.number)
@@ -84,7 +86,7 @@ impl<F: TableHandle> Table<F> {
     /// The index of the block that has the first entry at or after this key and number, or the number of blocks where every
     /// entry is before. A binary search over the index.
     pub fn block_index(&self, key: &[u8], number: Number) -> usize
-        ensures { result ≡ index_for key.now number self.now.items.items }
+        ensures { result ≡ index_for key.now number self.now.items }
     {
         let number = number.packed();
         let items = self.items.as_slice();
@@ -98,7 +100,7 @@ impl<F: TableHandle> Table<F> {
     /// The place and the length, in bytes, of the block that has the first entry at or after this key and number; None
     /// exactly where every entry is before.
     pub fn block_of(&self, key: &[u8], number: Number) -> Option<(u64, u32)>
-        ensures { result ≡ block_for key.now number self.now.items.items }
+        ensures { result ≡ block_for key.now number self.now.items }
     {
         let index = self.block_index(key, number);
         match self.items.get(index) {
@@ -111,7 +113,7 @@ impl<F: TableHandle> Table<F> {
 impl<F: TableHandle> HasRow for Table<F> {
     ghost the_row = { λ table. table.row };
 
-    ghost holds = { λ table es. IsTrue F.tells × Holds F.tells (F.number table.file) (F.bytes table.file) table.row table.items.items table.filter es };
+    ghost holds = { λ table es. IsTrue F.tells × Holds F.TableHandle table es };
 
     ghost agrees = { λ table es held. (held.1.table.sorted, held.1.table.row_is) };
 

@@ -13,7 +13,7 @@ ghost use Rattle.table_file.specs.Gathers.{Gathers};
 ghost use Rattle.table_file.specs.Indexes.{Indexes};
 ghost use Rattle.table_file.specs.Limits.{index_fault, blocks_fault, push_fault, IsRefused};
 ghost use Rattle.table_file.specs.Sums.{Sums, EndsWith};
-ghost use Rattle.table_file.specs.Tables.{IsTableOf};
+ghost use Rattle.table_file.specs.Tables.{IsTableOf, IsRowAt};
 ghost use Rattle.table_file.specs.declared.put_fault.PutFault.TheVariants.{Fault};
 
 use crate::filling::filter_with;
@@ -152,7 +152,8 @@ fn seal_table<M: Maker>(
 ) -> Result<Table<M::File>, PutFault>
     requires begun { M.begun maker.old ≡ Some number }
     requires entries { (es : List Entry) × (blocks : List (List Entry)) × Gathers index.old hashes.now summary.now blocks es }
-    ensures table { IfOk result (λ table. (es : List Entry) (blocks : List (List Entry)) → Gathers index.old hashes.now summary.now blocks es → (IsTrue M.File.tells → M.written maker.old ≡ body_bytes blocks) → IsTableOf M.File.tells number level (M.File.number table.file) (M.File.bytes table.file) table.row table.items.items table.filter blocks es) }
+    ensures table { IfOk result (λ table. (es : List Entry) (blocks : List (List Entry)) → Gathers index.old hashes.now summary.now blocks es → (IsTrue M.File.tells → M.written maker.old ≡ body_bytes blocks) → IsTableOf M.File.TableHandle table blocks es) }
+    ensures row { IfOk result (λ table. IsRowAt table.row number level 0) }
     ensures sealed { IfOk result (λ table. IsTrue M.File.tells → M.sealed maker.new ≡ with_table number (M.File.bytes table.file) (M.sealed maker.old)) }
     ensures fault { IfErr result (λ fault. (fault ≡ PutFault.Memory) ⊎ (fault ≡ PutFault.Fault)) }
     ensures ended { OnOk result (M.begun maker.new ≡ None) }
@@ -271,7 +272,8 @@ impl TableWriter {
     /// count of faults rose. After an error the writer is good for another table alone, as after Ok.
     pub fn finish<M: Maker>(&mut self, maker: &mut M) -> Result<Table<M::File>, PutFault>
         requires { (es : List Entry) × HasPushed M.File.tells (M.begun maker.old) (M.written maker.old) self.old es × (0 < length es) }
-        ensures table { IfOk result (λ table. (es : List Entry) → HasPushed M.File.tells (M.begun maker.old) (M.written maker.old) self.old es → 0 < length es → IsTableOf M.File.tells self.old.number self.old.level (M.File.number table.file) (M.File.bytes table.file) table.row table.items.items table.filter (blocks_of (block_length self.old) es) es) }
+        ensures table { IfOk result (λ table. (es : List Entry) → HasPushed M.File.tells (M.begun maker.old) (M.written maker.old) self.old es → 0 < length es → IsTableOf M.File.TableHandle table (blocks_of (block_length self.old) es) es) }
+        ensures row { IfOk result (λ table. IsRowAt table.row self.old.number self.old.level 0) }
         ensures sealed { IfOk result (λ table. IsTrue M.File.tells → M.sealed maker.new ≡ with_table self.old.number (M.File.bytes table.file) (M.sealed maker.old)) }
         ensures limit { (es : List Entry) → HasPushed M.File.tells (M.begun maker.old) (M.written maker.old) self.old es → 0 < length es → IsRefused (blocks_fault (blocks_of (block_length self.old) es)) result }
         ensures block { block_length self.new ≡ block_length self.old }

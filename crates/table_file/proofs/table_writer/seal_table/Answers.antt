@@ -43,13 +43,13 @@ returns-clause-table g c = λ es blocks gathers wrote.
     record {
       sorted = gathers.sorted;
       row_is = c.in_ok-row.ensures.row es gathers.sums gathers.sorted gathers.some;
-      row_number = c.in_ok-row.ensures.number;
-      row_level = c.in_ok-row.ensures.level;
-      row_tier = c.in_ok-row.ensures.tier;
-      row_bytes = c.in_ok-row.ensures.bytes ∙ whole;
-      file_number = same_number (g.M.Maker.begun c.args.maker.now) _ _ c.in_ok-file.ensures.number c.requires.begun;
-      file_bytes = λ told. table_spelled c.args.number footer (g.M.Maker.written c.args.maker.now) c.in_ok-text.text.items c.in_ok-filter.filter (g.M.File.TableHandle.bytes c.in_ok-file.file) blocks es
-          (spelled told) (wrote told) text filter refl end text_items (ap (λ n. c.end-end.result + n) lens) filter_len counted;
+      row_bytes = c.in_ok-row.ensures.bytes ∙ whole ∙ ap (λ n. length (blocks_table n blocks es)) (sym c.in_ok-row.ensures.number);
+      file_number = same_number (g.M.Maker.begun c.args.maker.now) _ _ c.in_ok-file.ensures.number c.requires.begun ∙ sym c.in_ok-row.ensures.number;
+      file_bytes = λ told. (table_spelled c.args.number footer (g.M.Maker.written c.args.maker.now) c.in_ok-text.text.items c.in_ok-filter.filter (g.M.File.TableHandle.bytes c.in_ok-file.file) blocks es
+          (spelled told) (wrote told) text filter refl end text_items (ap (λ n. c.end-end.result + n) lens) filter_len counted) ∙ ap (λ n. blocks_table n blocks es) (sym c.in_ok-row.ensures.number);
       items_are = c.take-items.ensures.items ∙ gathers.index_is.items;
       filter_is = filter;
     }
+
+pub returns-clause-row : goal.returns-clause-row
+returns-clause-row g c = record { number_is = c.in_ok-row.ensures.number; level_is = c.in_ok-row.ensures.level; tier_is = c.in_ok-row.ensures.tier }

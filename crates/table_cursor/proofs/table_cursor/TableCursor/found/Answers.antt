@@ -8,5 +8,5 @@ returns-clause-inside g c =
     let cursor = c.args.self.now in
     let table = arc_value cursor.table in
     let page = cursor.page in
-    let shows = cursor.shows c.requires.some in
-    omega (arith, find_inside c.args.key.now c.args.number table.row table.items.items cursor.index page.at page.entries shows.agrees c.requires.here c.requires.some, c.find.ensures)
+    let shows = cursor.shown c.requires.some in
+    omega (arith, find_inside c.args.key.now c.args.number table.row table.items cursor.index page.at page.entries shows.agrees c.requires.here c.requires.some, c.find.ensures)

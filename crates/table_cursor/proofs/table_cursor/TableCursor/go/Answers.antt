@@ -1,5 +1,5 @@
 use Rattle.std.proofs.Common.{◌+◌, Some, sym, subst}
-use Rattle.peb_base.specs.Cursors.{Goes}
+use Rattle.peb_base.specs.Cursors.{LeadsTo}
 use Rattle.table_file.specs.Form.{blocks_of}
 use Rattle.table_cursor.specs.Standing.{entries_before, OnPage}
 use Rattle.table_cursor.specs.Steps.{target, Fits}
@@ -17,9 +17,9 @@ returns-in-Within-clause-leads g c = λ es holds place on told.
 pub returns-in-First-clause-leads : goal.returns-in-First-clause-leads
 returns-in-First-clause-leads g c = λ es holds place on told.
     let blocks = blocks_of holds.full es in
-    subst (λ step. Goes (OnPage c.show.new.self.page c.show.new.self.index blocks es) (target step c.args.self.now.index blocks) c.show.result) (sym c.in-First.is) (c.show.ensures.leads es holds told)
+    subst (λ step. LeadsTo (OnPage c.show.new.self.page c.show.new.self.index blocks es) (target step c.args.self.now.index blocks) c.show.result) (sym c.in-First.is) (c.show.ensures.leads es holds told)
 
 pub returns-in-Last-clause-leads : goal.returns-in-Last-clause-leads
 returns-in-Last-clause-leads g c = λ es holds place on told.
     let blocks = blocks_of holds.full es in
-    subst (λ step. Goes (OnPage c.show_last.new.self.page c.show_last.new.self.index blocks es) (target step c.args.self.now.index blocks) c.show_last.result) (sym c.in-Last.is) (c.show_last.ensures.leads es holds told)
+    subst (λ step. LeadsTo (OnPage c.show_last.new.self.page c.show_last.new.self.index blocks es) (target step c.args.self.now.index blocks) c.show_last.result) (sym c.in-Last.is) (c.show_last.ensures.leads es holds told)

@@ -16,16 +16,16 @@ pub returns-then-self-last-clause-leads : goal.returns-then-self-last-clause-lea
 returns-then-self-last-clause-leads g c = λ es holds place on.
     let cursor = c.args.self.now in
     let some : 0 < length cursor.page.entries = not_none (length cursor.page.entries) c.is_empty.result c.if-is_empty.false c.is_empty.ensures.1 in
-    let inside = (cursor.shows some).inside in
+    let inside = (cursor.shown some).inside in
     let count : c.blocks-last.result ≡ length (blocks_of holds.full es) =
-    c.blocks-last.ensures ∙ ap (λ t. length t.items.items) c.deref.ensures ∙ ap length holds.table.items_are ∙ length-items 0 (blocks_of holds.full es) in
+    c.blocks-last.ensures.count ∙ ap (λ t. length t.items) c.deref.ensures ∙ ap length holds.table.items_are ∙ length-items 0 (blocks_of holds.full es) in
     next_block cursor.page cursor.index (blocks_of holds.full es) es place on inside (omega arith) (omega arith)
 
 pub returns-clause-leads : goal.returns-clause-leads
 returns-clause-leads g c = λ es holds place on.
     let cursor = c.args.self.now in
     let some : 0 < length cursor.page.entries = not_none (length cursor.page.entries) c.is_empty.result c.if-is_empty.false c.is_empty.ensures.1 in
-    let inside = (cursor.shows some).inside in
+    let inside = (cursor.shown some).inside in
     let count : c.blocks-last.result ≡ length (blocks_of holds.full es) =
-    c.blocks-last.ensures ∙ ap (λ t. length t.items.items) c.deref.ensures ∙ ap length holds.table.items_are ∙ length-items 0 (blocks_of holds.full es) in
+    c.blocks-last.ensures.count ∙ ap (λ t. length t.items) c.deref.ensures ∙ ap length holds.table.items_are ∙ length-items 0 (blocks_of holds.full es) in
     next_none cursor.page cursor.index (blocks_of holds.full es) es place on inside (omega arith) (omega arith)

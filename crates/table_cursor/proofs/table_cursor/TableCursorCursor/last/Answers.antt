@@ -1,6 +1,6 @@
 use Rattle.std.proofs.Common.{ap, subst}
 use Rattle.std.specs.Arc.{arc_value}
-use Rattle.peb_base.specs.Cursors.{Goes}
+use Rattle.peb_base.specs.Cursors.{LeadsTo}
 use Rattle.table_file.specs.Form.{blocks_of}
 use Rattle.table_cursor.specs.Standing.{OnPage}
 use Rattle.table_cursor.proofs.Standings.{stands_on}
@@ -11,6 +11,6 @@ returns-clause-goes g c = λ es place stands.
     let cursor = c.args.self.now in
     let new = c.go-moved.new.self in
     let blocks = blocks_of stands.holds.full es in
-    stands_on (arc_value cursor.table) (arc_value new.table) new.page new.index es stands.holds _ c.go-moved.result stands.told
+    stands_on g.P.File.TableHandle (arc_value cursor.table) (arc_value new.table) new.page new.index es stands.holds _ c.go-moved.result stands.told
     (ap arc_value c.go-moved.ensures.table)
-    (subst (λ p. Goes (OnPage new.page new.index blocks es) p c.go-moved.result) (c.last_step-step.ensures.leads es stands.holds) (c.go-moved.ensures.leads es stands.holds place stands.on stands.told))
+    (subst (λ p. LeadsTo (OnPage new.page new.index blocks es) p c.go-moved.result) (c.last_step-step.ensures.leads es stands.holds) (c.go-moved.ensures.leads es stands.holds place stands.on stands.told))

@@ -2,7 +2,7 @@ use Rattle.std.proofs.Common.{◌≡◌, ◌∙◌, List, ℕ, Some, sym, subst,
 use Rattle.table_file.specs.Form.{index_bytes}
 use Rattle.table_file.specs.Opening.{OpensAs}
 use Rattle.table_file.proofs.Openings.{opens}
-use Rattle.table_file.proofs.Searching.{index_ascends}
+use Rattle.table_file.proofs.Searching.{index_ascends, index_short}
 use Rattle.table_file.proofs.table.Table.open.Goals as goal
 
 one_value : (x y : List ℕ) → Some x ≡ Some y → x ≡ y
@@ -27,4 +27,9 @@ returns-clause-opened g c = λ told.
     (c.in-Ok-read_footer.ensures.long told) (c.in-Ok-read_footer.ensures.spelled told) (sym (c.in-Ok-read_index.ensures.spelled told)) refl (c.in-Ok-read_filter.ensures.filter told) c.in-Ok-read_index.ensures.index
 
 pub invariant_of-result : goal.invariant_of-result
-invariant_of-result g c = record { ascending = index_ascends c.in-Ok-read_footer.footer.index c.in-Ok-read_index.items.items c.in-Ok-read_index.ensures.index }
+invariant_of-result g c = record {
+  number_is = (let number : g.F.TableHandle.number c.in-Some.file ≡ c.args.row.number = search rules in number);
+  some = c.in-Ok-read_index.ensures.index.some;
+  short = index_short c.in-Ok-read_footer.footer.index c.in-Ok-read_index.items.items c.in-Ok-read_index.ensures.index;
+  ascending = index_ascends c.in-Ok-read_footer.footer.index c.in-Ok-read_index.items.items c.in-Ok-read_index.ensures.index;
+}

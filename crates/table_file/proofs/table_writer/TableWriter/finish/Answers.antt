@@ -4,7 +4,7 @@ use Rattle.table_file.specs.Gathers.{Gathers}
 use Rattle.table_file.specs.Limits.{blocks_fault, IsRefused}
 use Rattle.table_file.specs.Tables.{IsTableOf}
 use Rattle.table_file.proofs.Cuts.{ends_with, no_limit}
-use Rattle.table_file.proofs.Searching.{closed_ascend}
+use Rattle.table_file.proofs.Searching.{closed_ascend, closed_some}
 use Rattle.table_file.proofs.table_writer.TableWriter.finish.Goals as goal
 
 pub returns-in-Err-clause-limit : goal.returns-in-Err-clause-limit
@@ -28,6 +28,7 @@ seal_table-requires-clause-entries g c =
         some = c.requires.2;
         few = pushed.keeps.few;
         index_is = c.in-Ok.ensures.index closed pushed.keeps.index_is (ends_with _ _ _ _ _ _ _ _ _ es pushed.keeps);
+        blocked = closed_some c.args.self.now.builder.full es c.args.self.now.builder.entries c.requires.2 pushed.keeps.open_is;
         ascending = closed_ascend c.args.self.now.builder.full es c.args.self.now.builder.entries pushed.keeps.sorted pushed.keeps.open_is;
         hashes_are = c.deref.ensures.value ∙ pushed.keeps.hashes_are;
         sums = pushed.keeps.sums;
@@ -43,12 +44,13 @@ returns-in-Ok-seal_table-clause-table g c = λ es pushed some.
       some = some;
       few = pushed.keeps.few;
       index_is = c.in-Ok.ensures.index closed pushed.keeps.index_is (ends_with _ _ _ _ _ _ _ _ _ es pushed.keeps);
+      blocked = closed_some c.args.self.now.builder.full es block some pushed.keeps.open_is;
       ascending = closed_ascend c.args.self.now.builder.full es block pushed.keeps.sorted pushed.keeps.open_is;
       hashes_are = c.deref.ensures.value ∙ pushed.keeps.hashes_are;
       sums = pushed.keeps.sums;
     } in
     let made = c.in-Ok-seal_table.ensures.table es (with_last closed block) gathers (λ told. c.in-Ok.ensures.written told closed (pushed.keeps.blocks told)) in
-    subst (λ b. IsTableOf g.M.File.TableHandle.tells c.args.self.now.number c.args.self.now.level (g.M.File.TableHandle.number c.in-Ok-seal_table.table.file) (g.M.File.TableHandle.bytes c.in-Ok-seal_table.table.file) c.in-Ok-seal_table.table.row c.in-Ok-seal_table.table.items.items c.in-Ok-seal_table.table.filter (with_last closed b) es) pushed.keeps.open_is made
+    subst (λ b. IsTableOf g.M.File.TableHandle c.in-Ok-seal_table.table (with_last closed b) es) pushed.keeps.open_is made
 
 pub returns-in-Ok-seal_table-clause-limit : goal.returns-in-Ok-seal_table-clause-limit
 returns-in-Ok-seal_table-clause-limit g c = λ es pushed some.
