@@ -1,0 +1,115 @@
+-- The steps before the lock has its value.
+use Rattle.std.proofs.Common.{◌≡◌, ◌≢◌, ℕ, zero, suc, ◌+◌, ◌%◌, ◌^◌, ◌<◌, ◌≤◌, List, [], ◌∷◌, ◌++◌, length, get_or, set, sym, refl, ap, ◌∙◌, subst, ◌⊎◌, inl, inr, ⊎_elim, arith, Option, Some, None, length-set, length-append, append-nil, append_assoc}
+use Rattle.std.specs.List.{Contains}
+use Rattle.std.specs.List.Sorted.{IsStrictlyIncreasing}
+use Rattle.std.proofs.lemmas.List.Elements.{Contains-append_left, Contains-append_right, Contains-append_cases}
+use mathlib.Core.Option.{none, some, some-injective}
+use mathlib.Core.Option as maybe
+use mathlib.Core.Logic.{dite}
+use native.Mathlib.Decide.{ℕ_discrete}
+use lib.ListN.{get_elem?}
+use lib.Seq.{set-get_or}
+use Rattle.atomic_table.specs.Table.{State, Me, Step, step, Act, keeps, takes, gives, stepped, Valid, carried_after, Allows, Splits, Joins, Final, Seen, rest}
+use Rattle.atomic_table.proofs.Lists.{at_set, set_here, set_else, set_again, at_longer}
+use Rattle.turn_lock.specs.declared.known.Known.{Known}
+use Rattle.turn_lock.specs.declared.stage.Stage.{Stage}
+use Rattle.turn_lock.specs.declared.stage.Stage.TheVariants.{Fresh, Filling, Idle, Waiting, Serving, Spent}
+use Rattle.turn_lock.specs.Lists.{IsFront, merged, places_from, longer, shorter}
+use Rattle.turn_lock.specs.Seat.{IsServing, held_at, numbers, HasOwnEvents, HasPlaces, MayGive, HasWholeHistory, first_seat, having_seen, with_events, at_stage, after_split, newcomer, after_join}
+use Rattle.turn_lock.specs.Account.{Queue, Roll, Account}
+use Rattle.turn_lock.specs.Rule.{fresh, filling, spent, tickets_at, ticket_count, place_count, IsLive, IsSpent, HasTicket, Knows, Fits, IsAtHome, IsAway, AccountsFor, IsOpening, KeepsRule}
+use Rattle.turn_lock.specs.Steps.{AfterGrab, AfterBegin, AfterDraw, IsServed, AfterLook, AfterCheck, AfterCount, AfterPass, AfterLearn}
+use Rattle.turn_lock.proofs.Functions.{put, put_here, put_else, move, move_here, move_else}
+use Rattle.turn_lock.proofs.Lists.{none_there, at_below, at_once, alone, at_push, at_get, word0, word1, word2, same_some}
+use Rattle.turn_lock.proofs.Contained.{contains_none, contains_first, contains_alone}
+use Rattle.turn_lock.proofs.Fronts.{front_whole, front_longer, length_front, front_of, front_of_none, front_same, longer_case}
+use Rattle.turn_lock.proofs.Places.{merged_left, merged_right, merged_either, merged_increasing, push_increasing, length-merged}
+use Rattle.turn_lock.proofs.Stages.{live_or, same_ticket, is_live, spent_at, tickets_are, no_serve, serves_at, after_draw, after_pass, serves_once}
+use Rattle.turn_lock.proofs.Views.{ticket_count_set, ticket_count_below, ticket_count_snoc, place_count_set, place_count_snoc, place_count_one, views_stay, seat_stays}
+use Rattle.turn_lock.proofs.Standing.{Begun, still, settled, turn_is, knows_at, knows_further}
+
+abbrev IsFresh : Stage → Type 0
+IsFresh Fresh = Unit {0}
+IsFresh _ = ⊥
+
+abbrev IsFilling : Stage → Type 0
+IsFilling Filling = Unit {0}
+IsFilling _ = ⊥
+
+
+module _ {V E : Type 0} (stands : V → List E → Type 0) (actor : E → Option ℕ) where
+  abbrev Rule : State (Option V) (Known E) → Type 0
+  Rule = KeepsRule stands actor
+
+  grab_at : (id : ℕ) (s : State (Option V) (Known E)) → Rule s → get_elem? s.views id ≡ some fresh → (s.words ≡ 0 ∷ 0 ∷ 0 ∷ []) × (s.views ≡ fresh ∷ []) × (s.homes ≡ some None ∷ []) × (id ≡ 0)
+  grab_at id s r at = ⊎_elim
+      (λ (o : IsOpening stands actor s). ⊎_elim
+      (λ (t : (s.views ≡ fresh ∷ []) × (s.homes ≡ some None ∷ [])). (o.0, t.0, t.1, (alone fresh id fresh (subst (λ (z : List (Known E)). get_elem? z id ≡ some fresh) t.0 at)).0))
+      (λ (t : (s.views ≡ filling ∷ []) × (s.homes ≡ none ∷ [])). absurd (subst IsFilling (ap (λ (z : Known E). z.stage) (alone filling id fresh (subst (λ (z : List (Known E)). get_elem? z id ≡ some fresh) t.0 at)).1) tt)) o.1)
+      (λ (k : (a : Account E) × AccountsFor stands actor a s). absurd (k.1.each id fresh at).ticket) r
+
+  grabs_fresh : (slots id : ℕ) → Allows Rule slots id (fresh, []) 0 (λ n. n) (AfterGrab (step slots 0 0 0 none) (fresh, []))
+  grabs_fresh slots id s r deep at _ = let o = grab_at id s r at in (
+    filling,
+    takes 0 None,
+    ap (λ (z : List (maybe.Option (Option V))). get_elem? z 0) o.2,
+    inl (set-get_or s.words 0 0 ∙ o.0, inr ((λ k. set (o.1 k) (o.3 k) filling), ap (λ (z : List (maybe.Option (Option V))). set z 0 none) o.2)),
+    refl,
+  )
+
+  pub grabs : (slots id : ℕ) (me : Me (Option V) (Known E)) → me ≡ (fresh, []) → Allows Rule slots id me 0 (λ n. n) (AfterGrab (step slots 0 0 0 none) me)
+  grabs slots id me is = subst (λ (m : Me (Option V) (Known E)). Allows Rule slots id m 0 (λ n. n) (AfterGrab (step slots 0 0 0 none) m)) (sym is) (grabs_fresh slots id)
+
+  begin_at : (id : ℕ) (s : State (Option V) (Known E)) → Rule s → get_elem? s.views id ≡ some filling → (s.words ≡ 0 ∷ 0 ∷ 0 ∷ []) × (s.views ≡ filling ∷ []) × (s.homes ≡ none ∷ []) × (id ≡ 0)
+  begin_at id s r at = ⊎_elim
+      (λ (o : IsOpening stands actor s). ⊎_elim
+      (λ (t : (s.views ≡ fresh ∷ []) × (s.homes ≡ some None ∷ [])). absurd (subst IsFresh (ap (λ (z : Known E). z.stage) (alone fresh id filling (subst (λ (z : List (Known E)). get_elem? z id ≡ some filling) t.0 at)).1) tt))
+      (λ (t : (s.views ≡ filling ∷ []) × (s.homes ≡ none ∷ [])). (o.0, t.0, t.1, (alone filling id filling (subst (λ (z : List (Known E)). get_elem? z id ≡ some filling) t.0 at)).0)) o.1)
+      (λ (k : (a : Account E) × AccountsFor stands actor a s). absurd (k.1.each id filling at).ticket) r
+
+  -- the account of a lock that has just got its value
+  abbrev first_account : List E → Account E
+  first_account h = record {
+    history = h;
+    queue = record { served = 0; drawn = 0; taker = λ _. 0 };
+    roll = record { base = length h; seats = 1; owner = λ _. 0; giver = λ _. 0 };
+    top = 0;
+  }
+
+  first_kept : (h : List E) (x : V) → stands x h → AccountsFor stands actor (first_account h) record { words = 0 ∷ 0 ∷ length h % 2 ^ 64 ∷ []; homes = some (Some x) ∷ []; views = first_seat h ∷ [] }
+  first_kept h x st = record {
+    words = refl;
+    tickets = refl;
+    counted = omega arith;
+    seats = (refl, omega arith);
+    long = omega arith;
+    each = λ j v e. let t = alone (first_seat h) j v e in subst (λ (z : ℕ × Known E). Fits (first_account h) z.0 z.1) (λ i. (sym t.0 i, t.1 i)) record {
+      ticket = tt;
+      seen = front_whole h;
+      told = (h, refl);
+      gone = λ b. absurd b;
+      knows = λ _. record {
+        from = refl;
+        mine = λ p has. absurd (contains_none p has);
+        ascends = λ k below. absurd (omega arith);
+        numbers = λ n has. let z : 0 ≡ n = contains_alone 0 n has in (refl, omega arith);
+        count = λ _. refl;
+      };
+    };
+    longest = (first_seat h, refl, refl);
+    given = λ p low high. absurd (omega arith);
+    carried = λ p n e low there _. let b = at_below h p e there in absurd (omega arith);
+    value = inl (x, refl, st, λ j v e s. subst (λ (z : Known E). IsServing z.stage) (sym (alone (first_seat h) j v e).1) s);
+  }
+
+  begins_filled : (h : List E) (slots id : ℕ) (x : V) → stands x h → Allows Rule slots id (filling, (0, Some x) ∷ []) 2 (λ _. length h % 2 ^ 64) (λ _. AfterBegin h (step slots 2 (length h % 2 ^ 64) 0 none) (filling, (0, Some x) ∷ []) (length h % 2 ^ 64))
+  begins_filled h slots id x st s r deep at _ = let o = begin_at id s r at in (
+    first_seat h,
+    gives,
+    tt,
+    subst Rule (λ k. record { words = set (sym o.0 k) 2 (length h % 2 ^ 64); homes = set (sym o.2 k) 0 (some (Some x)); views = set (sym o.1 k) (sym o.3 k) (first_seat h) }) (inr (first_account h, first_kept h x st)),
+    refl,
+  )
+
+  pub begins : (h : List E) (n slots id : ℕ) (me : Me (Option V) (Known E)) (x : V) → me ≡ (filling, (0, Some x) ∷ []) → stands x h → length h % 2 ^ 64 ≡ n → Allows Rule slots id me 2 (λ _. n) (λ _. AfterBegin h (step slots 2 n 0 none) me n)
+  begins h n slots id me x is st long = subst (λ (z : ℕ × Me (Option V) (Known E)). Allows Rule slots id z.1 2 (λ _. z.0) (λ _. AfterBegin h (step slots 2 z.0 0 none) z.1 z.0)) (λ k. (long k, sym is k)) (begins_filled h slots id x st)
