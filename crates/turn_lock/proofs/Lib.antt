@@ -14,3 +14,4 @@ pub mod Passing
 pub mod Splitting
 pub mod Joining
 pub mod Closing
+pub mod Tapes

@@ -3,4 +3,4 @@ pub mod Seat
 pub mod Account
 pub mod Rule
 pub mod Steps
-pub mod Pairs
+pub mod Tests

@@ -13,8 +13,8 @@ mod rule;
 mod seat;
 mod stage;
 mod steps;
-//TESTS
-//mod tests;
+#[cfg(test)]
+mod tests;
 
 pub use counted::Counted;
 pub use known::Known;

@@ -1,0 +1,6 @@
+use Rattle.turn_lock.proofs.tests.add_by_two.Goals as goal
+
+pub returns-then-two_ok : goal.returns-then-two_ok
+returns-then-two_ok g c =
+    let a = c.join-a.ensures in let z = c.close_two-tape.ensures in
+    (_, _, a.first.3 c.if-one_ok.true, a.second.3 c.if-two_ok.true, z.all, z.apart)
