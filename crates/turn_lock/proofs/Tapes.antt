@@ -1,12 +1,13 @@
 -- What the tests say of tapes, and of a first seat into which two others were joined.
-use Rattle.std.proofs.Common.{◌≡◌, ℕ, zero, suc, ◌+◌, ◌<◌, ◌≤◌, Bool, true, false, cond, List, [], ◌∷◌, ◌++◌, length, drop, refl, sym, ap, ◌∙◌, subst, ◌⊎◌, arith, append-nil, Option, Some}
+use Rattle.std.proofs.Common.{◌≡◌, ℕ, zero, suc, ◌+◌, ◌<◌, ◌≤◌, Bool, true, false, cond, List, [], ◌∷◌, ◌++◌, length, drop, refl, sym, ap, ◌∙◌, subst, ◌⊎◌, inl, inr, ⊎_elim, arith, append-nil, Option, Some}
 use Rattle.std.specs.List.{Contains}
 use Rattle.std.proofs.lemmas.List.Elements.{Contains-append_left, Contains-append_right}
 use Rattle.turn_lock.specs.declared.known.Known.{Known}
 use Rattle.turn_lock.specs.declared.tests.Mark.{Mark}
 use Rattle.std.proofs.Math.Seq.{drop-append_seam}
 use Rattle.turn_lock.specs.Tests.{Says}
-use Rattle.turn_lock.specs.Seat.{MayGive, HasWholeHistory, numbers, first_seat, after_split, after_join}
+use Rattle.turn_lock.specs.Seat.{MayGive, HasWholeHistory, numbers, after_join}
+use Rattle.turn_lock.specs.Lists.{merged}
 use Rattle.turn_lock.proofs.Contained.{contains_none, contains_first, contains_next, contains_alone}
 use Rattle.turn_lock.proofs.Places.{merged_either}
 
@@ -29,21 +30,26 @@ says true m old items v same is by = subst (Says v) ((λ i. same i ++ m ∷ []) 
 says false m old items v same is by = subst (Says v) (append-nil v.seen ∙ (same ∙ sym is))
     (says_of v [] (omega arith) (λ e n h a. absurd (contains_none e h)))
 
-module _ {E : Type 0} where
-  abbrev first : Known E
-  first = after_split (after_split (first_seat []))
+module _ {E : Type 0} (u v w : Known E) where
+  three_at : u.number ≡ 0 → v.number ≡ 1 → w.number ≡ 2 → (n : ℕ) → n < 3 → Contains (numbers (after_join (after_join u v) w)) n
+  three_at d e f zero l = contains_first u.number 0 (after_join (after_join u v) w).joined d
+  three_at d e f (suc zero) l = contains_next u.number (after_join (after_join u v) w).joined 1
+      (Contains-append_left (u.joined ++ numbers v) (numbers w) 1 (Contains-append_right u.joined (numbers v) 1 (contains_first v.number 1 v.joined e)))
+  three_at d e f (suc (suc zero)) l = contains_next u.number (after_join (after_join u v) w).joined 2
+      (Contains-append_right (u.joined ++ numbers v) (numbers w) 2 (contains_first w.number 2 w.joined f))
+  three_at d e f (suc (suc (suc n))) l = absurd (omega arith)
 
-  three_at : (v w : Known E) → v.number ≡ 1 → w.number ≡ 2 → (n : ℕ) → n < 3 → Contains (numbers (after_join (after_join first v) w)) n
-  three_at v w e f zero l = contains_first 0 0 (after_join (after_join first v) w).joined refl
-  three_at v w e f (suc zero) l = Contains-append_left (0 ∷ numbers v) (numbers w) 1 (contains_next 0 (numbers v) 1 (contains_first v.number 1 v.joined e))
-  three_at v w e f (suc (suc zero)) l = Contains-append_right (0 ∷ numbers v) (numbers w) 2 (contains_first w.number 2 w.joined f)
-  three_at v w e f (suc (suc (suc n))) l = absurd (omega arith)
-
-  pub three_numbers : (x v w : Known E) → x ≡ after_join (after_join first v) w → v.number ≡ 1 → w.number ≡ 2 → (n : ℕ) → n < x.seats → Contains (numbers x) n
-  three_numbers x v w is e f n l = subst (λ (z : Known E). Contains (numbers z) n) (sym is) (three_at v w e f n (subst (λ (z : Known E). n < z.seats) is l))
+  pub three_numbers : (x : Known E) → x ≡ after_join (after_join u v) w → u.number ≡ 0 → v.number ≡ 1 → w.number ≡ 2 → u.seats ≡ 3 → (n : ℕ) → n < x.seats → Contains (numbers x) n
+  three_numbers x is d e f three n l =
+      let many : x.seats ≡ 3 = (λ i. (is i).seats) ∙ three in
+      subst (λ (z : Known E). Contains (numbers z) n) (sym is) (three_at d e f n (omega arith))
 
   -- each place is one of the two seats'
-  pub all_of_two : (x v w : Known E) (items : List E) → x ≡ after_join (after_join first v) w → HasWholeHistory x → x.seen ≡ items → (p : ℕ) → p < length items → Contains v.mine p ⊎ Contains w.mine p
-  all_of_two x v w items is whole seen p l =
-      let n = ap (λ (z : List E). length z) seen in let b : x.base ≡ 0 = ap (λ (z : Known E). z.base) is in
-      merged_either v.mine w.mine p (subst (λ (z : Known E). Contains z.mine p) is (whole.each p (omega arith) (omega arith)))
+  pub all_of_two : (x : Known E) (items : List E) → x ≡ after_join (after_join u v) w → u.mine ≡ [] → HasWholeHistory x → x.seen ≡ items → (p : ℕ) → u.base ≤ p → p < length items → Contains v.mine p ⊎ Contains w.mine p
+  all_of_two x items is none whole seen p low high =
+      let n = ap (λ (z : List E). length z) seen in let b : x.base ≡ u.base = ap (λ (z : Known E). z.base) is in
+      let has = subst (λ (z : Known E). Contains z.mine p) is (whole.each p (omega arith) (omega arith)) in
+      ⊎_elim {C = Contains v.mine p ⊎ Contains w.mine p}
+          (λ first. ⊎_elim {C = Contains v.mine p ⊎ Contains w.mine p}
+          (λ zero_th. absurd (contains_none p (subst (λ (z : List ℕ). Contains z p) none zero_th))) (λ second. inl second) (merged_either u.mine v.mine p first))
+          (λ third. inr third) (merged_either (merged u.mine v.mine) w.mine p has)

@@ -2,7 +2,10 @@
 use Rattle.std.specs.Prelude.{◌≡◌, ℕ, ◌<◌, ◌≤◌, List, [], ◌∷◌, ◌++◌, length, drop, Some}
 use Rattle.turn_lock.specs.declared.known.Known.{Known}
 use Rattle.turn_lock.specs.declared.tests.Mark.{Mark}
+use Rattle.turn_lock.specs.declared.tests.Actor.{Actor}
+use Rattle.turn_lock.specs.declared.stage.Stage.TheVariants.{Idle}
 use Rattle.turn_lock.specs.Seat.{MayGive, with_events}
+use Rattle.atomic_table.specs.Seated.{TableId}
 
 -- three ascending places
 abbrev pub AreThree : List ℕ → Type 0
@@ -21,3 +24,9 @@ pub record Says (v : Known Mark) (items : List Mark) : Type 0 where
 -- the seat after that
 abbrev pub after_marks : Known Mark → List Mark → Known Mark
 after_marks v items = with_events (marks_behind v items) v
+
+-- an actor has a seat of the lock that rests, and writes that seat's number
+pub record IsReady (lock : TableId) (actor : Actor) : Type 0 where
+  pub lock_is : actor.seat.lock ≡ lock
+  pub rests : actor.seat.known.stage ≡ Idle
+  pub number : actor.by ≡ actor.seat.known.number

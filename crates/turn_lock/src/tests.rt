@@ -1,11 +1,11 @@
 //! Turns in threads.
 
-ghost use Rattle.std.specs.Prelude.{◌≡◌, ◌+◌, ◌<◌, ◌++◌, ◌∷◌, [], ℕ, ◌⊎◌, List, length, All};
+ghost use Rattle.std.specs.Prelude.{◌≡◌, ◌<◌, ◌≤◌, ◌++◌, ◌∷◌, [], ℕ, ◌⊎◌, List, length, All};
 ghost use Rattle.std.specs.Prelude.{Contains, IfOk, IfSome, IsTrue, OnErr, OnOk};
 ghost use Rattle.turn_lock.specs.declared.stage.Stage.TheVariants.{Idle};
 ghost use Rattle.turn_lock.specs.declared.tests.Mark.{Mark};
 ghost use Rattle.turn_lock.specs.Seat.{IsServing, at_stage, after_split, first_seat, newcomer};
-ghost use Rattle.turn_lock.specs.Tests.{AreThree, Says, after_marks};
+ghost use Rattle.turn_lock.specs.Tests.{AreThree, IsReady, Says, after_marks};
 
 use crate::counted::Counted;
 use crate::lock::TurnLock;
@@ -125,6 +125,15 @@ struct Opened {
     two: Seat<Tape>,
 }
 
+/// A lock with this tape in it, and its first seat.
+fn open(alloc: Global, tape: Tape) -> Option<(TurnLock<Tape>, Seat<Tape>)>
+    ensures {
+        IfSome result (λ o. o.1 ≡ record { lock = o.0; known = first_seat tape.marks.items })
+    }
+{
+    TurnLock::new(alloc, tape).ok()
+}
+
 /// A lock with two seats beside the first.
 fn open_two(alloc: Global, tape: Tape) -> Option<Opened>
     ensures one {
@@ -139,9 +148,7 @@ fn open_two(alloc: Global, tape: Tape) -> Option<Opened>
             record { lock = o.lock; known = after_split (after_split (first_seat tape.marks.items)) })
     }
 {
-    let Ok((lock, mut first)) = TurnLock::new(alloc, tape) else {
-        return None;
-    };
+    let (lock, mut first) = open(alloc, tape)?;
     let Ok(one) = lock.split(&mut first) else {
         return None;
     };
@@ -156,7 +163,7 @@ fn open_two(alloc: Global, tape: Tape) -> Option<Opened>
     })
 }
 
-/// Joins the two seats into the first, and closes the lock.
+/// Joins the two seats into the first, which gave no event, and closes the lock.
 fn close_two(
     lock: TurnLock<Tape>,
     mut first: Seat<Tape>,
@@ -164,11 +171,16 @@ fn close_two(
     two: Seat<Tape>,
 ) -> Tape
     requires lock { (first.lock ≡ lock) × (one.lock ≡ lock) × (two.lock ≡ lock) }
-    requires first { first.known ≡ after_split (after_split (first_seat [])) }
-    requires rests { (one.known.stage ≡ Idle) × (two.known.stage ≡ Idle) }
-    requires numbers { (one.known.number ≡ 1) × (two.known.number ≡ 2) }
+    requires rests {
+        (first.known.stage ≡ Idle) × (one.known.stage ≡ Idle) × (two.known.stage ≡ Idle)
+    }
+    requires numbers {
+        (first.known.number ≡ 0) × (one.known.number ≡ 1) × (two.known.number ≡ 2)
+    }
+    requires first { (first.known.seats ≡ 3) × (first.known.mine ≡ []) }
     ensures all {
-        (p : ℕ) → p < length result.marks.items → Contains one.known.mine p ⊎ Contains two.known.mine p
+        (p : ℕ) → first.known.base ≤ p → p < length result.marks.items
+        → Contains one.known.mine p ⊎ Contains two.known.mine p
     }
     ensures apart { (p : ℕ) → Contains one.known.mine p → Contains two.known.mine p → ⊥ }
 {
@@ -211,6 +223,93 @@ fn add_by_two<R: Threads + Wait + Sync>(rt: &R, alloc: Global) -> Option<Tape>
     if one_ok && two_ok { Some(tape) } else { None }
 }
 
+/// Two threads take a turn each without an event.
+fn idle_by_two<R: Threads + Wait + Sync>(rt: &R, alloc: Global, tape: Tape) -> Option<Tape> {
+    let Opened {
+        lock,
+        first,
+        one,
+        two,
+    } = open_two(alloc, tape)?;
+    let (one, two) = join(
+        rt,
+        || -> Seat<Tape>
+            requires { (one.lock ≡ lock) × (one.known.stage ≡ Idle) × (one.known.number ≡ 1) }
+            ensures { (result.lock ≡ lock) × (result.known.stage ≡ Idle) × (result.known.number ≡ 1) }
+        { idle_turn(rt, &lock, one) },
+        || -> Seat<Tape>
+            requires { (two.lock ≡ lock) × (two.known.stage ≡ Idle) × (two.known.number ≡ 2) }
+            ensures { (result.lock ≡ lock) × (result.known.stage ≡ Idle) × (result.known.number ≡ 2) }
+        { idle_turn(rt, &lock, two) },
+    );
+    Some(close_two(lock, first, one, two))
+}
+
+/// What one thread of many has.
+#[derive(Drop)]
+struct Actor {
+    seat: Seat<Tape>,
+    by: u64,
+}
+
+/// Adds as many marks, each in a turn of its own.
+fn add_many<R: Wait>(rt: &R, lock: &TurnLock<Tape>, actor: &mut Actor, count: u64)
+    requires { IsReady lock.now actor.old }
+{
+    let seat = &mut actor.seat;
+    for value in 0..count {
+        let mark = Mark {
+            by: actor.by,
+            value,
+        };
+        let _ = add(rt, lock, seat, mark);
+    }
+}
+
+/// As many actors, of the numbers from 1 on.
+fn actors(
+    alloc: Global,
+    lock: &TurnLock<Tape>,
+    first: &mut Seat<Tape>,
+    count: u64,
+) -> Option<Vec<Actor>>
+    requires lock { first.old.lock ≡ lock.now }
+    requires rests { first.old.known.stage ≡ Idle }
+    requires first { (first.old.known.number ≡ 0) × (first.old.known.seats ≡ 1) }
+    ensures ready { IfSome result (λ actors. All (IsReady lock.now) actors.items) }
+    ensures rests { first.new.known.stage ≡ Idle }
+    ensures lock { first.new.lock ≡ first.old.lock }
+{
+    let mut actors = Vec::new(alloc);
+    for by in 1..=count {
+        let Ok(seat) = lock.split(first) else {
+            return None;
+        };
+        if actors.push(Actor { seat, by }).is_err() {
+            return None;
+        }
+    }
+    Some(actors)
+}
+
+/// Twenty threads, each with a seat of its own, add a thousand marks each.
+fn add_by_twenty<R: Threads + Wait + Sync>(rt: &R, alloc: Global) -> Option<Tape> {
+    let tape = Tape {
+        marks: Vec::new(alloc),
+    };
+    let (lock, mut first) = open(alloc, tape)?;
+    let mut actors = actors(alloc, &lock, &mut first, 20)?;
+    for_each_mut(
+        rt,
+        actors.as_mut_slice(),
+        20,
+        &|_, actor: &mut Actor|
+            requires { IsReady lock actor.now }
+        { add_many(rt, &lock, actor, 1000) },
+    );
+    Some(lock.take(rt, &mut first))
+}
+
 /// The values that this number wrote, in the order of the tape.
 fn values_by(alloc: Global, tape: &Tape, by: u64) -> Result<Vec<u64>, AllocError> {
     let mut values = Vec::new(alloc);
@@ -232,5 +331,37 @@ fn two_threads_add_three_marks_each(rt: HostRuntime) -> Result<(), Fail> {
     assert!(rt; tape.marks.len() == 6);
     assert!(rt; one.as_slice() == [0, 1, 2].as_slice());
     assert!(rt; two.as_slice() == [0, 1, 2].as_slice());
+    Ok(())
+}
+
+#[test]
+fn turns_without_an_event_leave_the_tape(rt: HostRuntime) -> Result<(), Fail> {
+    let marks = vec![in rt.alloc(); Mark { by: 1, value: 7 }, Mark { by: 2, value: 8 }]?;
+    let Some(tape) = idle_by_two(&rt, rt.alloc(), Tape { marks }) else {
+        return Err(Fail::from("no memory"));
+    };
+    let one = values_by(rt.alloc(), &tape, 1)?;
+    let two = values_by(rt.alloc(), &tape, 2)?;
+    assert!(rt; tape.marks.len() == 2);
+    assert!(rt; one.as_slice() == [7].as_slice());
+    assert!(rt; two.as_slice() == [8].as_slice());
+    Ok(())
+}
+
+#[test]
+fn twenty_threads_add_a_thousand_marks_each(rt: HostRuntime) -> Result<(), Fail> {
+    let Some(tape) = add_by_twenty(&rt, rt.alloc()) else {
+        return Err(Fail::from("no memory"));
+    };
+    let mut in_order = true;
+    for by in 1..=20 {
+        let values = values_by(rt.alloc(), &tape, by)?;
+        in_order = in_order && values.len() == 1000;
+        for (place, value) in values.iter().enumerate() {
+            in_order = in_order && *value == place as u64;
+        }
+    }
+    assert!(rt; in_order);
+    assert!(rt; tape.marks.len() == 20_000);
     Ok(())
 }
