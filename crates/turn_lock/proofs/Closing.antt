@@ -69,8 +69,7 @@ module _ {V E : Type 0} (stands : V → List E → Type 0) (actor : E → Option
       → ((x : V) × (get_elem? xs 0 ≡ some (Some x)) × stands x known.seen) × HasWholeHistory known
   closes id v known ws xs is idle first all final = let s : State (Option V) (Known E) = final.0 in
       let at : get_elem? s.views id ≡ some known = final.1.1 ∙ ap some (sym is) in let k = settled stands actor s id known at (subst Begun (sym idle) tt) final.1.0 in
-      let h = at_home k.0 s k.1 id known at idle first all in
-      (
+      let h = at_home k.0 s k.1 id known at idle first all in (
         (h.0, final.4 0 (Some h.0) (ap (λ (z : List (maybe.Option (Option V))). get_elem? z 0) h.1), h.2),
         record { each = all_mine k.0 s k.1 id known at idle first all; once = all_counted k.0 s k.1 id known at idle first all },
       )

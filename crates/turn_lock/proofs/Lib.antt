@@ -14,4 +14,4 @@ pub mod Passing
 pub mod Splitting
 pub mod Joining
 pub mod Closing
-pub mod Tapes
+pub mod TestLemmas

@@ -36,7 +36,6 @@ abbrev IsFilling : Stage → Type 0
 IsFilling Filling = Unit {0}
 IsFilling _ = ⊥
 
-
 module _ {V E : Type 0} (stands : V → List E → Type 0) (actor : E → Option ℕ) where
   abbrev Rule : State (Option V) (Known E) → Type 0
   Rule = KeepsRule stands actor

@@ -28,11 +28,10 @@ above_all n (p ∷ ps) f = (f p (contains_first p p ps refl), above_all n ps (λ
 
 ascends_pairs : (ps : List ℕ) → AllPairs (λ p q. p < q) ps → Ascends ps
 ascends_pairs [] f = tt
-ascends_pairs (p ∷ ps) f =
-    (
-      above_all p ps (λ x h. let below = h.1 in subst (λ y. p < y) h.2 (f 0 (suc h.0) x (omega arith) (omega arith))),
-      ascends_pairs ps (λ i j d later below. f (suc i) (suc j) d (omega arith) (omega arith)),
-    )
+ascends_pairs (p ∷ ps) f = (
+  above_all p ps (λ x h. let below = h.1 in subst (λ y. p < y) h.2 (f 0 (suc h.0) x (omega arith) (omega arith))),
+  ascends_pairs ps (λ i j d later below. f (suc i) (suc j) d (omega arith) (omega arith)),
+)
 
 ascends_from : (ps : List ℕ) → IsStrictlyIncreasing ps → Ascends ps
 ascends_from ps h = ascends_pairs ps (AllPairs-from_increasing ps h)

@@ -33,7 +33,6 @@ Begun Fresh = ⊥
 Begun Filling = ⊥
 Begun _ = Unit {0}
 
-
 module _ {V E : Type 0} (stands : V → List E → Type 0) (actor : E → Option ℕ) where
   abbrev Rule : State (Option V) (Known E) → Type 0
   Rule = KeepsRule stands actor

@@ -7,7 +7,7 @@ pub record Queue : Type 0 where
   pub drawn : ℕ
   pub taker : ℕ → ℕ
 
--- the length of the history at the beginning, the number of seats so far, and the seat that has each number, and each place
+-- how long the history was at first, how many seats there were, and whose each number and place is
 pub record Roll : Type 0 where
   pub base : ℕ
   pub seats : ℕ

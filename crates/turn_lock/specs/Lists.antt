@@ -5,10 +5,11 @@ use Rattle.std.specs.Prelude.{◌≡◌, ℕ, ◌+◌, if◌then◌else◌, List
 abbrev pub IsFront : {E : Type 0} → List E → List E → Type 0
 IsFront {E} front all = (rest : List E) × (all ≡ front ++ rest)
 
--- the longer one of two lists, and the shorter
+-- the longer one of two lists
 abbrev pub longer : {E : Type 0} → List E → List E → List E
 longer xs ys = if nat_lt (length xs) (length ys) then ys else xs
 
+-- the other one
 abbrev pub shorter : {E : Type 0} → List E → List E → List E
 shorter xs ys = if nat_lt (length xs) (length ys) then xs else ys
 

@@ -1,10 +1,11 @@
 -- What a seat knows, and how a call changes it.
-use Rattle.std.specs.Prelude.{◌≡◌, ℕ, ◌+◌, ◌<◌, ◌≤◌, List, [], ◌∷◌, ◌++◌, length, slice_get, Contains, Option, Some, None}
+use Rattle.std.specs.Prelude.{◌≡◌, ℕ, ◌+◌, ◌<◌, ◌≤◌, List, [], ◌∷◌, ◌++◌}
+use Rattle.std.specs.Prelude.{length, slice_get, Contains, Option, Some, None}
 use Rattle.std.specs.List.Sorted.{IsStrictlyIncreasing}
 use Rattle.atomic_table.specs.Seated.{TableId}
 use Rattle.turn_lock.specs.declared.known.Known.{Known}
 use Rattle.turn_lock.specs.declared.stage.Stage.{Stage}
-use Rattle.turn_lock.specs.declared.stage.Stage.TheVariants.{Fresh, Filling, Idle, Waiting, Serving, Spent}
+use Rattle.turn_lock.specs.declared.stage.Stage.TheVariants.{Idle, Serving}
 use Rattle.turn_lock.specs.Lists.{longer, shorter, places_from, merged}
 
 -- what a clause sees of a seat: which lock it is of, and what it knows
@@ -26,13 +27,13 @@ IsServing _ = ⊥
 abbrev pub numbers : {E : Type 0} → Known E → List ℕ
 numbers v = v.number ∷ v.joined
 
--- each event since the lock was made that carries a number of the seat stands at one of its places
+-- each event since `new` that carries a number of the seat stands at one of its places
 abbrev pub HasOwnEvents : {E : Type 0} → (E → Option ℕ) → Known E → Type 0
 HasOwnEvents {E} actor v =
-    (p n : ℕ) (e : E) → v.base ≤ p → slice_get v.seen p ≡ Some e → actor e ≡ Some n → Contains (numbers v) n
-    → Contains v.mine p
+    (p n : ℕ) (e : E) → v.base ≤ p → slice_get v.seen p ≡ Some e
+    → actor e ≡ Some n → Contains (numbers v) n → Contains v.mine p
 
--- the seat's places ascend, and are places of events that it has seen and that came since the lock was made
+-- the seat's places ascend, and are of events that it has seen and that came since `new`
 pub record HasPlaces {E : Type 0} (v : Known E) : Type 0 where
   pub ascend : IsStrictlyIncreasing v.mine
   pub within : (p : ℕ) → Contains v.mine p → (v.base ≤ p) × (p < length v.seen)
@@ -41,13 +42,27 @@ pub record HasPlaces {E : Type 0} (v : Known E) : Type 0 where
 abbrev pub MayGive : {E : Type 0} → (E → Option ℕ) → ℕ → List E → Type 0
 MayGive {E} actor number said = (e : E) (n : ℕ) → Contains said e → actor e ≡ Some n → n ≡ number
 
+-- a seat at this stage
 abbrev pub at_stage : {E : Type 0} → Stage → Known E → Known E
 at_stage stage v = record v { stage = stage }
+
+-- a seat of this number that has seen this history and has no event of its own
+abbrev pub unmarked : {E : Type 0} → ℕ → List E → Known E
+unmarked number history = record {
+  stage = Idle;
+  seen = history;
+  told = [];
+  mine = [];
+  number = number;
+  joined = [];
+  seats = 0;
+  base = 0;
+}
 
 -- the first seat of a lock whose value stands for this history
 abbrev pub first_seat : {E : Type 0} → List E → Known E
 first_seat history =
-    record { stage = Idle; seen = history; told = []; mine = []; number = 0; joined = []; seats = 1; base = length history }
+    record (unmarked 0 history) { seats = 1; base = length history }
 
 -- a seat at this stage that has seen this history
 abbrev pub having_seen : {E : Type 0} → Stage → List E → Known E → Known E
@@ -64,7 +79,7 @@ after_split v = record v { seats = v.seats + 1 }
 -- the seat that a split of the first one gives: it has seen as much, and its number is the next
 abbrev pub newcomer : {E : Type 0} → Known E → Known E
 newcomer v =
-    record { stage = Idle; seen = v.seen; told = []; mine = []; number = v.seats; joined = []; seats = 0; base = v.base }
+    record (unmarked v.seats v.seen) { base = v.base }
 
 -- a seat into which another was joined
 abbrev pub after_join : {E : Type 0} → Known E → Known E → Known E
@@ -75,7 +90,7 @@ after_join v w = record v {
   joined = v.joined ++ numbers w;
 }
 
--- the seat has seen each place since the lock was made as one of its own, and each just once
+-- each event since `new` that the seat has seen is its own, and each just once
 pub record HasWholeHistory {E : Type 0} (v : Known E) : Type 0 where
   pub each : (p : ℕ) → v.base ≤ p → p < length v.seen → Contains v.mine p
   pub once : length v.seen ≡ v.base + length v.mine

@@ -15,7 +15,6 @@ pub trait Counted {
 
     /// How many events the value has had, modulo 2^64: the length of each list that it stands for.
     fn events(&self) -> u64
-        ensures {
-            (events : List Self.Event) → stands self.now events → length events % 2 ^ 64 ≡ result
-        };
+        ensures { (events : List Self.Event) → stands self.now events
+            → length events % 2 ^ 64 ≡ result };
 }

@@ -10,7 +10,8 @@ pub struct Known<E> {
     pub seen: LinkedList<E>,
     /// The shorter one of the two that it had seen at its last join.
     pub told: LinkedList<E>,
-    /// The places in the history, ascending, of the events that were given through it or through a seat joined into it.
+    /// The places in the history, ascending, of the events that were given through it or through a
+    /// seat that was joined into it.
     pub mine: LinkedList<u64>,
     /// Its own number, 0 for the first seat.
     pub number: u64,

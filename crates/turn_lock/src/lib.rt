@@ -1,8 +1,8 @@
-//! A lock that serves its callers by turn, and hands a value on together with the history of its events.
+//! A lock that serves its callers by turn, and hands a value on with the history of its events.
 //!
-//! The layer above makes a value `Counted`, gives each caller a seat, and changes the value between `take` and `give`. A
-//! contract tells what a seat has seen of the one history and which places in it are its own. The layer may not know how the
-//! turns are kept, and nothing promises that a turn comes.
+//! The layer above makes a value `Counted`, gives each caller a seat, and changes the value between
+//! `take` and `give`. Contracts tell what a seat has seen of the one history, and which places in it
+//! are its own. The layer may not know how turns are kept. Nothing promises that a turn comes.
 #![tactic(auto)]
 
 mod counted;
@@ -19,6 +19,5 @@ mod tests;
 pub use counted::Counted;
 pub use known::Known;
 pub use lock::TurnLock;
-pub use rule::Turns;
 pub use seat::Seat;
 pub use stage::Stage;

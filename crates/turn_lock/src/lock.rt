@@ -31,8 +31,8 @@ const SERVING: usize = 1;
 // How many events there were.
 const EVENTS: usize = 2;
 
-// How often a seat that waits gives its processor away before it sleeps. A turn that does nothing is over by then; a turn that
-// waits for a device isn't.
+// How often a seat that waits gives its processor away before it sleeps. A turn that does nothing
+// is over by then; one that waits for a device isn't.
 const YIELDS: u32 = 64;
 
 /// One value and the history of its events, which its seats reach by turns.
@@ -51,12 +51,13 @@ impl<V: Counted> Model for TurnLock<V> {
 
     ghost view = { λ lock. lock.table.shared.table_id };
 
-    ghost invariant = { λ lock. (lock.table.shared.table_id.words ≡ 3) × (lock.table.shared.table_id.slots ≡ 1) };
+    ghost invariant = { λ lock. (lock.table.shared.table_id.words ≡ 3)
+        × (lock.table.shared.table_id.slots ≡ 1) };
 }
 
 impl<V: Counted> TurnLock<V> {
-    /// A lock with this value in it, and its first seat. The caller says for which events the value stands. Where memory is
-    /// wanting, the value comes back.
+    /// A lock with this value in it, and its first seat. The caller says for which events the value
+    /// stands. Where memory is wanting, the value comes back.
     pub fn new(alloc: Global, value: V) -> Result<(TurnLock<V>, Seat<V>), V>
         ghost history: { List V.Event }
         requires { V.stands value history }
@@ -87,8 +88,8 @@ impl<V: Counted> TurnLock<V> {
         shared.store::<Begin<K>>(place, EVENTS, events);
     }
 
-    /// Waits for the seat's turn, and takes the value. The seat has then seen the whole history, for which the value stands. It
-    /// takes no memory.
+    /// Waits for the seat's turn, and takes the value. It stands for all events so far, and the seat
+    /// has then seen these. It takes no memory.
     pub fn take<R: Wait>(&self, rt: &R, seat: &mut Seat<V>) -> V
         requires lock { seat.old.lock ≡ self.now }
         requires rests { seat.old.known.stage ≡ Idle }
@@ -103,9 +104,8 @@ impl<V: Counted> TurnLock<V> {
         ensures places { HasPlaces seat.new.known }
 
         // what stays
-        ensures known {
-            seat.new.known ≡ having_seen seat.new.known.stage seat.new.known.seen seat.old.known
-        }
+        ensures known { seat.new.known
+            ≡ having_seen seat.new.known.stage seat.new.known.seen seat.old.known }
         ensures lock { seat.new.lock ≡ seat.old.lock }
     {
         let shared = &self.table.shared;
@@ -134,8 +134,8 @@ impl<V: Counted> TurnLock<V> {
         self.table.shared.park(rt, SERVING, low as u32);
     }
 
-    /// Gives the value back, and ends the seat's turn. The caller says which event the value has had since it was taken, if any.
-    /// It takes no memory.
+    /// Gives the value back, and ends the seat's turn. The caller says which event the value has had
+    /// since it was taken, if any. It takes no memory.
     pub fn give(&self, seat: &mut Seat<V>, value: V)
         ghost said: { List V.Event }
         requires lock { seat.old.lock ≡ self.now }
@@ -156,7 +156,7 @@ impl<V: Counted> TurnLock<V> {
         }
     }
 
-    /// The same. The caller's proof may read the event off `about`, which is let be.
+    /// The same. What the caller says may be computed from `about`, which isn't touched.
     pub fn give_about<X>(&self, seat: &mut Seat<V>, value: V, about: &X)
         ghost said: { List V.Event }
         requires lock { seat.old.lock ≡ self.now }
@@ -191,17 +191,16 @@ impl<V: Counted> TurnLock<V> {
         shared.fetch_add::<Count<K>>(place, EVENTS, 1);
     }
 
-    /// Splits a newcomer off the first seat. `Memory` is answered at the last number alone, and changes nothing.
+    /// Splits a further seat off the first one. It has seen as much, and no event is its own.
+    /// `Memory` is answered after 2^64 - 1 seats alone, and changes nothing.
     pub fn split(&self, seat: &mut Seat<V>) -> Result<Seat<V>, Memory>
         requires lock { seat.old.lock ≡ self.now }
         requires rests { seat.old.known.stage ≡ Idle }
         requires first { seat.old.known.number ≡ 0 }
-        ensures ok {
-            IfOk result (λ other. other ≡ record { lock = seat.old.lock; known = newcomer seat.old.known })
-        }
-        ensures counted {
-            OnOk result (seat.new ≡ record { lock = seat.old.lock; known = after_split seat.old.known })
-        }
+        ensures ok { IfOk result (λ other. other
+            ≡ record { lock = seat.old.lock; known = newcomer seat.old.known }) }
+        ensures counted { OnOk result (seat.new
+            ≡ record { lock = seat.old.lock; known = after_split seat.old.known }) }
         ensures last { OnErr result (seat.old.known.seats + 1 ≡ 2 ^ 64) }
         ensures err { OnErr result (seat.new ≡ seat.old) }
     {
@@ -213,7 +212,7 @@ impl<V: Counted> TurnLock<V> {
         Ok(Seat { place, seats: 0 })
     }
 
-    /// Takes in what another seat has seen, its places and its numbers.
+    /// Takes in what another seat has seen, its events and its numbers. No event is both seats'.
     pub fn join(&self, seat: &mut Seat<V>, other: Seat<V>)
         requires lock { (seat.old.lock ≡ self.now) × (other.lock ≡ self.now) }
         requires rests { (seat.old.known.stage ≡ Idle) × (other.known.stage ≡ Idle) }
@@ -222,9 +221,8 @@ impl<V: Counted> TurnLock<V> {
         ensures joined { seat.new.known ≡ after_join seat.old.known other.known }
         ensures front { IsFront seat.old.known.seen seat.new.known.seen }
         ensures other_front { IsFront other.known.seen seat.new.known.seen }
-        ensures apart {
-            (p : ℕ) → Contains seat.old.known.mine p → Contains other.known.mine p → ⊥
-        }
+        ensures apart { (p : ℕ) → Contains seat.old.known.mine p
+            → Contains other.known.mine p → ⊥ }
     {
         let Seat { place, seats: _ } = other;
         let shared = &self.table.shared;
@@ -232,7 +230,7 @@ impl<V: Counted> TurnLock<V> {
         shared.load::<Learn>(&mut seat.place, TICKET);
     }
 
-    /// The value, once all other seats were joined into the first. That seat has seen the whole history.
+    /// The value, once all other seats were joined into the first one, which has seen all events.
     pub fn close(self, seat: Seat<V>) -> V
         requires lock { seat.lock ≡ self }
         requires rests { seat.known.stage ≡ Idle }

@@ -5,8 +5,8 @@ use crate::known::Known;
 use atomic_table::TableRule;
 use std::marker::PhantomData;
 
-/// The rule. Word 0 is the next ticket, word 1 the ticket that is served, word 2 the number of events, each modulo 2^64. The
-/// one slot holds the value.
+/// The rule. Word 0 is the next ticket, word 1 the ticket that is served, word 2 the number of
+/// events, each modulo 2^64. The one slot holds the value.
 pub struct Turns<V> {
     of: PhantomData<V>,
 }

@@ -1,6 +1,7 @@
 //! Stages of a seat.
 
-/// How far a seat is with a turn. A ticket is counted without bound, where the words of the lock count modulo 2^64.
+/// How far a seat is with a turn. Tickets are counted without bound here; the words of the lock
+/// count them modulo 2^64.
 pub enum Stage {
     /// The first seat, before the lock has its value.
     Fresh,

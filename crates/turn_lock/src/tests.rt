@@ -1,11 +1,11 @@
 //! Turns in threads.
 
 ghost use Rattle.std.specs.Prelude.{◌≡◌, ◌<◌, ◌≤◌, ◌++◌, ◌∷◌, [], ℕ, ◌⊎◌, List, length, All};
-ghost use Rattle.std.specs.Prelude.{Contains, IfOk, IfSome, IsTrue, OnErr, OnOk};
+ghost use Rattle.std.specs.Prelude.{Contains, IfOk, IfSome, IsTrue, OnErr, OnOk, Some};
 ghost use Rattle.turn_lock.specs.declared.stage.Stage.TheVariants.{Idle};
 ghost use Rattle.turn_lock.specs.declared.tests.Mark.{Mark};
 ghost use Rattle.turn_lock.specs.Seat.{IsServing, at_stage, after_split, first_seat, newcomer};
-ghost use Rattle.turn_lock.specs.Tests.{AreThree, IsReady, Says, after_marks};
+ghost use Rattle.turn_lock.specs.Tests.{AreThree, IsIdle, Says, having_given};
 
 use crate::counted::Counted;
 use crate::lock::TurnLock;
@@ -47,8 +47,9 @@ impl Counted for Tape {
 fn give_back(lock: &TurnLock<Tape>, seat: &mut Seat<Tape>, tape: Tape)
     requires lock { seat.old.lock ≡ lock.now }
     requires turn { IsServing seat.old.known.stage }
-    requires says { Says seat.old.known tape.marks.items }
-    ensures given { seat.new.known ≡ at_stage Idle (after_marks seat.old.known tape.marks.items) }
+    requires says { Says (λ mark. Some mark.by) seat.old.known tape.marks.items }
+    ensures given { seat.new.known
+        ≡ at_stage Idle (having_given seat.old.known tape.marks.items) }
     ensures lock { seat.new.lock ≡ seat.old.lock }
 {
     lock.give(seat, tape);
@@ -64,12 +65,10 @@ fn add<R: Wait>(
     requires lock { seat.old.lock ≡ lock.now }
     requires rests { seat.old.known.stage ≡ Idle }
     requires own { mark.by ≡ seat.old.known.number }
-    ensures added {
-        OnOk result ((between : List Mark) ×
-            (let before = seat.old.known.seen ++ between in
-            (seat.new.known.seen ≡ before ++ mark ∷ [])
-            × (seat.new.known.mine ≡ seat.old.known.mine ++ length before ∷ [])))
-    }
+    ensures added { OnOk result ((between : List Mark) ×
+        (let before = seat.old.known.seen ++ between in
+        (seat.new.known.seen ≡ before ++ mark ∷ [])
+        × (seat.new.known.mine ≡ seat.old.known.mine ++ length before ∷ []))) }
     ensures err { OnErr result (seat.new.known.mine ≡ seat.old.known.mine) }
     ensures number { seat.new.known.number ≡ seat.old.known.number }
     ensures rests { seat.new.known.stage ≡ Idle }
@@ -89,13 +88,10 @@ fn add_three<R: Wait>(
     mut seat: Seat<Tape>,
     by: u64,
 ) -> (Seat<Tape>, bool)
-    requires lock { seat.lock ≡ lock.now }
-    requires rests { seat.known.stage ≡ Idle }
-    requires own { (by ≡ seat.known.number) × (seat.known.mine ≡ []) }
+    requires idle { IsIdle lock.now by seat }
+    requires fresh { seat.known.mine ≡ [] }
     ensures three { IsTrue result.1 → AreThree result.0.known.mine }
-    ensures number { result.0.known.number ≡ by }
-    ensures rests { result.0.known.stage ≡ Idle }
-    ensures lock { result.0.lock ≡ lock.now }
+    ensures idle { IsIdle lock.now by result.0 }
 {
     let first = add(rt, lock, &mut seat, Mark { by, value: 0 });
     let second = add(rt, lock, &mut seat, Mark { by, value: 1 });
@@ -103,14 +99,11 @@ fn add_three<R: Wait>(
     (seat, first.is_ok() && second.is_ok() && third.is_ok())
 }
 
-/// A turn without an event.
+/// A turn without an event. It leaves the seat's places as they were.
 fn idle_turn<R: Wait>(rt: &R, lock: &TurnLock<Tape>, mut seat: Seat<Tape>) -> Seat<Tape>
-    requires lock { seat.lock ≡ lock.now }
-    requires rests { seat.known.stage ≡ Idle }
+    requires { IsIdle lock.now seat.known.number seat }
     ensures places { result.known.mine ≡ seat.known.mine }
-    ensures number { result.known.number ≡ seat.known.number }
-    ensures rests { result.known.stage ≡ Idle }
-    ensures lock { result.lock ≡ lock.now }
+    ensures idle { IsIdle lock.now seat.known.number result }
 {
     let tape = lock.take(rt, &mut seat);
     lock.give_about(&mut seat, tape, &());
@@ -127,26 +120,24 @@ struct Opened {
 
 /// A lock with this tape in it, and its first seat.
 fn open(alloc: Global, tape: Tape) -> Option<(TurnLock<Tape>, Seat<Tape>)>
-    ensures {
-        IfSome result (λ o. o.1 ≡ record { lock = o.0; known = first_seat tape.marks.items })
-    }
+    ensures { IfSome result (λ o. o.1
+        ≡ record { lock = o.0; known = first_seat tape.marks.items }) }
 {
     TurnLock::new(alloc, tape).ok()
 }
 
 /// A lock with two seats beside the first.
 fn open_two(alloc: Global, tape: Tape) -> Option<Opened>
-    ensures one {
-        IfSome result (λ o. o.one ≡ record { lock = o.lock; known = newcomer (first_seat tape.marks.items) })
-    }
-    ensures two {
-        IfSome result (λ o. o.two ≡
-            record { lock = o.lock; known = newcomer (after_split (first_seat tape.marks.items)) })
-    }
-    ensures first {
-        IfSome result (λ o. o.first ≡
-            record { lock = o.lock; known = after_split (after_split (first_seat tape.marks.items)) })
-    }
+    ensures one { IfSome result (λ o. o.one
+        ≡ record { lock = o.lock; known = newcomer (first_seat tape.marks.items) }) }
+    ensures two { IfSome result (λ o. o.two ≡ record {
+      lock = o.lock;
+      known = newcomer (after_split (first_seat tape.marks.items));
+    }) }
+    ensures first { IfSome result (λ o. o.first ≡ record {
+      lock = o.lock;
+      known = after_split (after_split (first_seat tape.marks.items));
+    }) }
 {
     let (lock, mut first) = open(alloc, tape)?;
     let Ok(one) = lock.split(&mut first) else {
@@ -164,24 +155,11 @@ fn open_two(alloc: Global, tape: Tape) -> Option<Opened>
 }
 
 /// Joins the two seats into the first, which gave no event, and closes the lock.
-fn close_two(
-    lock: TurnLock<Tape>,
-    mut first: Seat<Tape>,
-    one: Seat<Tape>,
-    two: Seat<Tape>,
-) -> Tape
-    requires lock { (first.lock ≡ lock) × (one.lock ≡ lock) × (two.lock ≡ lock) }
-    requires rests {
-        (first.known.stage ≡ Idle) × (one.known.stage ≡ Idle) × (two.known.stage ≡ Idle)
-    }
-    requires numbers {
-        (first.known.number ≡ 0) × (one.known.number ≡ 1) × (two.known.number ≡ 2)
-    }
+fn close_two(lock: TurnLock<Tape>, mut first: Seat<Tape>, one: Seat<Tape>, two: Seat<Tape>) -> Tape
+    requires idle { IsIdle lock 0 first × IsIdle lock 1 one × IsIdle lock 2 two }
     requires first { (first.known.seats ≡ 3) × (first.known.mine ≡ []) }
-    ensures all {
-        (p : ℕ) → first.known.base ≤ p → p < length result.marks.items
-        → Contains one.known.mine p ⊎ Contains two.known.mine p
-    }
+    ensures all { (p : ℕ) → first.known.base ≤ p → p < length result.marks.items
+        → Contains one.known.mine p ⊎ Contains two.known.mine p }
     ensures apart { (p : ℕ) → Contains one.known.mine p → Contains two.known.mine p → ⊥ }
 {
     lock.join(&mut first, one);
@@ -189,13 +167,12 @@ fn close_two(
     lock.close(first)
 }
 
-/// Two threads with a seat each add three marks. Each has three ascending places, and together they have all.
+/// Two threads with a seat each add three marks. Each has three ascending places of its own, and
+/// together they have all.
 fn add_by_two<R: Threads + Wait + Sync>(rt: &R, alloc: Global) -> Option<Tape>
-    ensures {
-        IfSome result (λ tape. (one two : List ℕ) × AreThree one × AreThree two
-            × ((p : ℕ) → p < length tape.marks.items → Contains one p ⊎ Contains two p)
-            × ((p : ℕ) → Contains one p → Contains two p → ⊥))
-    }
+    ensures { IfSome result (λ tape. (one two : List ℕ) × AreThree one × AreThree two
+        × ((p : ℕ) → p < length tape.marks.items → Contains one p ⊎ Contains two p)
+        × ((p : ℕ) → Contains one p → Contains two p → ⊥)) }
 {
     let tape = Tape {
         marks: Vec::new(alloc),
@@ -209,12 +186,12 @@ fn add_by_two<R: Threads + Wait + Sync>(rt: &R, alloc: Global) -> Option<Tape>
     let (a, b) = join(
         rt,
         || -> (Seat<Tape>, bool)
-            requires { (one.lock ≡ lock) × (one.known.stage ≡ Idle) × (one.known.number ≡ 1) × (one.known.mine ≡ []) }
-            ensures { (result.0.lock ≡ lock) × (result.0.known.stage ≡ Idle) × (result.0.known.number ≡ 1) × (IsTrue result.1 → AreThree result.0.known.mine) }
+            requires { IsIdle lock 1 one × (one.known.mine ≡ []) }
+            ensures { IsIdle lock 1 result.0 × (IsTrue result.1 → AreThree result.0.known.mine) }
         { add_three(rt, &lock, one, 1) },
         || -> (Seat<Tape>, bool)
-            requires { (two.lock ≡ lock) × (two.known.stage ≡ Idle) × (two.known.number ≡ 2) × (two.known.mine ≡ []) }
-            ensures { (result.0.lock ≡ lock) × (result.0.known.stage ≡ Idle) × (result.0.known.number ≡ 2) × (IsTrue result.1 → AreThree result.0.known.mine) }
+            requires { IsIdle lock 2 two × (two.known.mine ≡ []) }
+            ensures { IsIdle lock 2 result.0 × (IsTrue result.1 → AreThree result.0.known.mine) }
         { add_three(rt, &lock, two, 2) },
     );
     let (one, one_ok) = a;
@@ -234,12 +211,12 @@ fn idle_by_two<R: Threads + Wait + Sync>(rt: &R, alloc: Global, tape: Tape) -> O
     let (one, two) = join(
         rt,
         || -> Seat<Tape>
-            requires { (one.lock ≡ lock) × (one.known.stage ≡ Idle) × (one.known.number ≡ 1) }
-            ensures { (result.lock ≡ lock) × (result.known.stage ≡ Idle) × (result.known.number ≡ 1) }
+            requires { IsIdle lock 1 one }
+            ensures { IsIdle lock 1 result }
         { idle_turn(rt, &lock, one) },
         || -> Seat<Tape>
-            requires { (two.lock ≡ lock) × (two.known.stage ≡ Idle) × (two.known.number ≡ 2) }
-            ensures { (result.lock ≡ lock) × (result.known.stage ≡ Idle) × (result.known.number ≡ 2) }
+            requires { IsIdle lock 2 two }
+            ensures { IsIdle lock 2 result }
         { idle_turn(rt, &lock, two) },
     );
     Some(close_two(lock, first, one, two))
@@ -254,7 +231,7 @@ struct Actor {
 
 /// Adds as many marks, each in a turn of its own.
 fn add_many<R: Wait>(rt: &R, lock: &TurnLock<Tape>, actor: &mut Actor, count: u64)
-    requires { IsReady lock.now actor.old }
+    requires { IsIdle lock.now actor.old.by actor.old.seat }
 {
     let seat = &mut actor.seat;
     for value in 0..count {
@@ -276,7 +253,8 @@ fn actors(
     requires lock { first.old.lock ≡ lock.now }
     requires rests { first.old.known.stage ≡ Idle }
     requires first { (first.old.known.number ≡ 0) × (first.old.known.seats ≡ 1) }
-    ensures ready { IfSome result (λ actors. All (IsReady lock.now) actors.items) }
+    ensures ready { IfSome result (λ actors.
+        All (λ actor. IsIdle lock.now actor.by actor.seat) actors.items) }
     ensures rests { first.new.known.stage ≡ Idle }
     ensures lock { first.new.lock ≡ first.old.lock }
 {
@@ -304,7 +282,7 @@ fn add_by_twenty<R: Threads + Wait + Sync>(rt: &R, alloc: Global) -> Option<Tape
         actors.as_mut_slice(),
         20,
         &|_, actor: &mut Actor|
-            requires { IsReady lock actor.now }
+            requires { IsIdle lock actor.now.by actor.now.seat }
         { add_many(rt, &lock, actor, 1000) },
     );
     Some(lock.take(rt, &mut first))

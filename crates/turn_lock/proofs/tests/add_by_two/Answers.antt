@@ -5,4 +5,4 @@ pub returns-then-two_ok : goal.returns-then-two_ok
 returns-then-two_ok g c =
     let a = c.join-a.ensures in let z = c.close_two-tape.ensures in
     let none : c.in_ok-lock.field-0.first.known.base ≡ 0 = search rules in
-    (_, _, a.first.3 c.if-one_ok.true, a.second.3 c.if-two_ok.true, (λ p l. z.all p (omega arith) l), z.apart)
+    (_, _, a.first.1 c.if-one_ok.true, a.second.1 c.if-two_ok.true, (λ p l. z.all p (omega arith) l), z.apart)

@@ -7,8 +7,7 @@ use Rattle.turn_lock.proofs.lock.TurnLock.join.Goals as goal
 
 pub join_seat-requires : goal.join_seat-requires
 join_seat-requires g c =
-    let one = ap (λ z. z.known) c.seat.view_is in let two = ap (λ z. z.known) c.other.view_is in let idle = (λ i. (two i).stage) ∙ c.requires.rests.1 in
-    (
+    let one = ap (λ z. z.known) c.seat.view_is in let two = ap (λ z. z.known) c.other.view_is in let idle = (λ i. (two i).stage) ∙ c.requires.rests.1 in (
       search rules,
       search rules,
       c.other.invariant.1 ∙ (λ i. held_at (idle i)),

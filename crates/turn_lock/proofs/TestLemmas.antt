@@ -1,34 +1,30 @@
--- What the tests say of tapes, and of a first seat into which two others were joined.
+-- What the tests say of a value that is given back, and of a first seat into which two others were joined.
 use Rattle.std.proofs.Common.{◌≡◌, ℕ, zero, suc, ◌+◌, ◌<◌, ◌≤◌, Bool, true, false, cond, List, [], ◌∷◌, ◌++◌, length, drop, refl, sym, ap, ◌∙◌, subst, ◌⊎◌, inl, inr, ⊎_elim, arith, append-nil, Option, Some}
 use Rattle.std.specs.List.{Contains}
 use Rattle.std.proofs.lemmas.List.Elements.{Contains-append_left, Contains-append_right}
 use Rattle.turn_lock.specs.declared.known.Known.{Known}
-use Rattle.turn_lock.specs.declared.tests.Mark.{Mark}
 use Rattle.std.proofs.Math.Seq.{drop-append_seam}
 use Rattle.turn_lock.specs.Tests.{Says}
 use Rattle.turn_lock.specs.Seat.{MayGive, HasWholeHistory, numbers, after_join}
 use Rattle.turn_lock.specs.Lists.{merged}
+use Rattle.turn_lock.proofs.Lists.{same_some}
 use Rattle.turn_lock.proofs.Contained.{contains_none, contains_first, contains_next, contains_alone}
 use Rattle.turn_lock.proofs.Places.{merged_either}
 
-by_of : Option ℕ → ℕ
-by_of (Some n) = n
-by_of _ = 0
+module _ {E : Type 0} (actor : E → Option ℕ) where
+  says_of : (v : Known E) (said : List E) → length said ≤ 1 → MayGive actor v.number said → Says actor v (v.seen ++ said)
+  says_of v said few own = record {
+    whole = ap (λ l. v.seen ++ l) (drop-append_seam v.seen said);
+    one = subst (λ (l : List E). length l ≤ 1) (sym (drop-append_seam v.seen said)) few;
+    own = subst (λ (l : List E). MayGive actor v.number l) (sym (drop-append_seam v.seen said)) own;
+  }
 
-says_of : (v : Known Mark) (said : List Mark) → length said ≤ 1 → MayGive (λ m. Some m.by) v.number said → Says v (v.seen ++ said)
-says_of v said few own = record {
-  whole = ap (λ l. v.seen ++ l) (drop-append_seam v.seen said);
-  one = subst (λ (l : List Mark). length l ≤ 1) (sym (drop-append_seam v.seen said)) few;
-  own = subst (λ (l : List Mark). MayGive (λ m. Some m.by) v.number l) (sym (drop-append_seam v.seen said)) own;
-}
-
--- a mark was pushed, or wasn't, on the marks that the seat has seen
-pub says : (b : Bool) (m : Mark) (old items : List Mark) (v : Known Mark) → v.seen ≡ old → items ≡ cond b (old ++ m ∷ []) old → m.by ≡ v.number → Says v items
-unfolding by_of
-says true m old items v same is by = subst (Says v) ((λ i. same i ++ m ∷ []) ∙ sym is)
-    (says_of v (m ∷ []) (omega arith) (λ e n h a. ap by_of (sym a) ∙ (ap (λ (z : Mark). z.by) (sym (contains_alone m e h)) ∙ by)))
-says false m old items v same is by = subst (Says v) (append-nil v.seen ∙ (same ∙ sym is))
-    (says_of v [] (omega arith) (λ e n h a. absurd (contains_none e h)))
+  -- an event was added, or wasn't, behind those that the seat has seen
+  pub says : (b : Bool) (x : E) (old events : List E) (v : Known E) → v.seen ≡ old → events ≡ cond b (old ++ x ∷ []) old → actor x ≡ Some v.number → Says actor v events
+  says true x old events v same is by = subst (Says actor v) ((λ i. same i ++ x ∷ []) ∙ sym is)
+      (says_of v (x ∷ []) (omega arith) (λ e n h a. same_some n v.number (sym a ∙ (ap actor (sym (contains_alone x e h)) ∙ by))))
+  says false x old events v same is by = subst (Says actor v) (append-nil v.seen ∙ (same ∙ sym is))
+      (says_of v [] (omega arith) (λ e n h a. absurd (contains_none e h)))
 
 module _ {E : Type 0} (u v w : Known E) where
   three_at : u.number ≡ 0 → v.number ≡ 1 → w.number ≡ 2 → (n : ℕ) → n < 3 → Contains (numbers (after_join (after_join u v) w)) n
@@ -50,6 +46,6 @@ module _ {E : Type 0} (u v w : Known E) where
       let n = ap (λ (z : List E). length z) seen in let b : x.base ≡ u.base = ap (λ (z : Known E). z.base) is in
       let has = subst (λ (z : Known E). Contains z.mine p) is (whole.each p (omega arith) (omega arith)) in
       ⊎_elim {C = Contains v.mine p ⊎ Contains w.mine p}
-          (λ first. ⊎_elim {C = Contains v.mine p ⊎ Contains w.mine p}
-          (λ zero_th. absurd (contains_none p (subst (λ (z : List ℕ). Contains z p) none zero_th))) (λ second. inl second) (merged_either u.mine v.mine p first))
-          (λ third. inr third) (merged_either (merged u.mine v.mine) w.mine p has)
+      (λ first. ⊎_elim {C = Contains v.mine p ⊎ Contains w.mine p}
+      (λ zero_th. absurd (contains_none p (subst (λ (z : List ℕ). Contains z p) none zero_th))) (λ second. inl second) (merged_either u.mine v.mine p first))
+      (λ third. inr third) (merged_either (merged u.mine v.mine) w.mine p has)
