@@ -13,6 +13,11 @@ pub record SeatView (E : Type 0) : Type 0 where
   pub lock : TableId
   pub known : Known E
 
+-- a seat of the lock rests, and has this number
+abbrev pub IsIdle : {E : Type 0} → TableId → ℕ → SeatView E → Type 0
+IsIdle lock number seat =
+    (seat.lock ≡ lock) × (seat.known.stage ≡ Idle) × (seat.known.number ≡ number)
+
 -- what a seat holds at a stage: the emptied slot while it is served
 abbrev pub held_at : {V : Type 0} → Stage → List (ℕ × Option V)
 held_at (Serving ticket) = (0, None) ∷ []

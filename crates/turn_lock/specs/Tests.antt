@@ -1,19 +1,12 @@
 -- What the tests say of seats.
 use Rattle.std.specs.Prelude.{◌≡◌, ℕ, ◌<◌, ◌≤◌, List, [], ◌∷◌, ◌++◌, length, drop, Option}
-use Rattle.atomic_table.specs.Seated.{TableId}
 use Rattle.turn_lock.specs.declared.known.Known.{Known}
-use Rattle.turn_lock.specs.declared.stage.Stage.TheVariants.{Idle}
-use Rattle.turn_lock.specs.Seat.{SeatView, MayGive, with_events}
+use Rattle.turn_lock.specs.Seat.{MayGive, with_events}
 
 -- three ascending places
 abbrev pub AreThree : List ℕ → Type 0
 AreThree xs =
     (p : ℕ) × (q : ℕ) × (r : ℕ) × (p < q) × (q < r) × (xs ≡ p ∷ q ∷ r ∷ [])
-
--- a seat of the lock rests, and has this number
-abbrev pub IsIdle : {E : Type 0} → TableId → ℕ → SeatView E → Type 0
-IsIdle lock number seat =
-    (seat.lock ≡ lock) × (seat.known.stage ≡ Idle) × (seat.known.number ≡ number)
 
 -- the events behind those that the seat has seen
 abbrev pub events_behind : {E : Type 0} → Known E → List E → List E

@@ -1,6 +1,6 @@
 use Rattle.std.proofs.Common.{◌≡◌, All}
 use Rattle.turn_lock.specs.declared.stage.Stage.TheVariants.{Idle}
-use Rattle.turn_lock.specs.Tests.{IsIdle}
+use Rattle.turn_lock.specs.Seat.{IsIdle}
 use Rattle.turn_lock.proofs.tests.actors.Given as goal
 
 abbrev pub invariant-loop-by : goal.invariant-loop-by
