@@ -14,9 +14,11 @@ static pthread_mutex_t mutex = PTHREAD_MUTEX_INITIALIZER;
 static _Alignas(64) atomic_uint_fast64_t next;
 static atomic_uint_fast64_t serving;
 static uint64_t raised;
+static pthread_barrier_t together;
 static int by_ticket, micros;
 
 static void *turns(void *count) {
+    pthread_barrier_wait(&together);
     for (uint64_t left = *(uint64_t *)count; left > 0; left--) {
         if (by_ticket) {
             uint64_t ticket = atomic_fetch_add(&next, 1);
@@ -43,6 +45,7 @@ int main(int argc, char **argv) {
     struct timespec start, end;
     by_ticket = strcmp(argv[1], "ticket") == 0;
     micros = atoi(argv[4]);
+    pthread_barrier_init(&together, NULL, threads);
     clock_gettime(CLOCK_MONOTONIC, &start);
     for (int i = 0; i < threads; i++) pthread_create(&running[i], NULL, turns, &each);
     for (int i = 0; i < threads; i++) pthread_join(running[i], NULL);

@@ -1,32 +1,21 @@
 -- A newcomer is split off the first seat.
-use Rattle.std.proofs.Common.{◌≡◌, ◌≢◌, ℕ, zero, suc, ◌+◌, ◌%◌, ◌^◌, ◌<◌, ◌≤◌, List, [], ◌∷◌, ◌++◌, length, get_or, set, sym, refl, ap, ◌∙◌, subst, ◌⊎◌, inl, inr, ⊎_elim, arith, Option, Some, None, length-set, length-append, append-nil, append_assoc}
+use Rattle.std.proofs.Common.{◌≡◌, ℕ, ◌+◌, ◌^◌, ◌<◌, List, [], ◌∷◌, ◌++◌, length, set, sym, refl, ap, ◌∙◌, subst, ◌⊎◌, inl, inr, ⊎_elim, arith, Option, length-set, length-append}
 use Rattle.std.specs.List.{Contains}
-use Rattle.std.specs.List.Sorted.{IsStrictlyIncreasing}
-use Rattle.std.proofs.lemmas.List.Elements.{Contains-append_left, Contains-append_right, Contains-append_cases}
-use mathlib.Core.Option.{none, some, some-injective}
-use mathlib.Core.Option as maybe
-use mathlib.Core.Logic.{dite}
-use native.Mathlib.Decide.{ℕ_discrete}
+use mathlib.Core.Option.{some}
 use lib.ListN.{get_elem?}
-use lib.Seq.{set-get_or}
-use Rattle.atomic_table.specs.Table.{State, Me, Step, step, Act, keeps, takes, gives, stepped, Valid, carried_after, Allows, Splits, Joins, Final, Seen, rest}
-use Rattle.atomic_table.proofs.Lists.{at_set, set_here, set_else, set_again, at_longer}
+use Rattle.atomic_table.specs.Table.{State, Splits}
+use Rattle.atomic_table.proofs.Lists.{at_longer}
 use Rattle.turn_lock.specs.declared.known.Known.{Known}
-use Rattle.turn_lock.specs.declared.stage.Stage.{Stage}
-use Rattle.turn_lock.specs.declared.stage.Stage.TheVariants.{Fresh, Filling, Idle, Waiting, Serving, Spent}
-use Rattle.turn_lock.specs.Lists.{IsFront, merged, places_from, longer, shorter}
-use Rattle.turn_lock.specs.Seat.{IsServing, held_at, numbers, HasOwnEvents, HasPlaces, MayGive, HasWholeHistory, first_seat, having_seen, with_events, at_stage, after_split, newcomer, after_join}
-use Rattle.turn_lock.specs.Account.{Queue, Roll, Account}
-use Rattle.turn_lock.specs.Rule.{fresh, filling, spent, tickets_at, ticket_count, place_count, IsLive, IsSpent, HasTicket, Knows, Fits, IsAtHome, IsAway, AccountsFor, IsOpening, KeepsRule}
-use Rattle.turn_lock.specs.Steps.{AfterGrab, AfterBegin, AfterDraw, IsServed, AfterLook, AfterCheck, AfterCount, AfterPass, AfterLearn}
-use Rattle.turn_lock.proofs.Functions.{put, put_here, put_else, move, move_here, move_else}
-use Rattle.turn_lock.proofs.Lists.{none_there, at_below, at_once, alone, at_push, at_get, word0, word1, word2, same_some}
+use Rattle.turn_lock.specs.declared.stage.Stage.TheVariants.{Idle, Serving}
+use Rattle.turn_lock.specs.Seat.{IsServing, after_split, newcomer}
+use Rattle.turn_lock.specs.Account.{Account}
+use Rattle.turn_lock.specs.Rule.{tickets_at, ticket_count, place_count, Fits, IsAtHome, IsAway, AccountsFor, KeepsRule}
+use Rattle.turn_lock.proofs.Functions.{put, put_here, put_else}
+use Rattle.turn_lock.proofs.Lists.{at_below, at_push}
 use Rattle.turn_lock.proofs.Contained.{contains_none, contains_first, contains_alone}
-use Rattle.turn_lock.proofs.Fronts.{front_whole, front_longer, length_front, front_of, front_of_none, front_same, longer_case}
-use Rattle.turn_lock.proofs.Places.{merged_left, merged_right, merged_either, merged_increasing, push_increasing, length-merged}
-use Rattle.turn_lock.proofs.Stages.{live_or, same_ticket, is_live, spent_at, tickets_are, no_serve, serves_at, after_draw, after_pass, serves_once}
-use Rattle.turn_lock.proofs.Views.{ticket_count_set, ticket_count_below, ticket_count_snoc, place_count_set, place_count_snoc, place_count_one, views_stay, seat_stays}
-use Rattle.turn_lock.proofs.Standing.{Begun, still, settled, turn_is, knows_at, knows_further}
+use Rattle.turn_lock.proofs.Stages.{is_live}
+use Rattle.turn_lock.proofs.Views.{ticket_count_set, ticket_count_snoc, place_count_set, place_count_snoc, views_stay, seat_stays}
+use Rattle.turn_lock.proofs.Standing.{Begun, settled}
 
 module _ {V E : Type 0} (stands : V → List E → Type 0) (actor : E → Option ℕ) where
   abbrev Rule : State (Option V) (Known E) → Type 0

@@ -1,8 +1,8 @@
 -- Stages of a seat, and the tickets at them.
-use Rattle.std.proofs.Common.{◌≡◌, ◌≢◌, ℕ, ◌+◌, ◌<◌, ◌≤◌, sym, refl, ap, ◌∙◌, subst, ◌⊎◌, inl, inr, arith, List, [], ◌∷◌, Option, None}
+use Rattle.std.proofs.Common.{◌≡◌, ◌≢◌, ℕ, ◌+◌, sym, refl, ap, ◌∙◌, subst, ◌⊎◌, inl, inr, arith}
 use Rattle.turn_lock.specs.declared.stage.Stage.{Stage}
 use Rattle.turn_lock.specs.declared.stage.Stage.TheVariants.{Fresh, Filling, Idle, Waiting, Serving, Spent}
-use Rattle.turn_lock.specs.Seat.{IsServing, held_at}
+use Rattle.turn_lock.specs.Seat.{IsServing}
 use Rattle.turn_lock.specs.Account.{Queue}
 use Rattle.turn_lock.specs.Rule.{tickets_at, IsLive, IsSpent, HasTicket}
 use Rattle.turn_lock.proofs.Functions.{put, put_else}

@@ -1,10 +1,9 @@
 -- What each step tells its seat: of the step, the seat before, the word found, the seat after.
-use Rattle.std.specs.Prelude.{◌≡◌, ◌≢◌, ℕ, ◌%◌, ◌^◌, List, [], ◌∷◌, length}
+use Rattle.std.specs.Prelude.{◌≡◌, ◌≢◌, ℕ, ◌%◌, ◌^◌, List, ◌∷◌, length}
 use Rattle.std.specs.Prelude.{Option, Some, None}
 use Rattle.std.specs.List.Sorted.{IsStrictlyIncreasing}
 use Rattle.atomic_table.specs.Table.{Me, Step, rest}
 use Rattle.turn_lock.specs.declared.known.Known.{Known}
-use Rattle.turn_lock.specs.declared.stage.Stage.{Stage}
 use Rattle.turn_lock.specs.declared.stage.Stage.TheVariants.{Idle, Waiting, Serving}
 use Rattle.turn_lock.specs.Lists.{IsFront}
 use Rattle.turn_lock.specs.Seat.{HasOwnEvents, HasPlaces, first_seat, with_events}

@@ -1,4 +1,4 @@
-use Rattle.std.proofs.Common.{◌≡◌, ◌∙◌, sym, ap, Some}
+use Rattle.std.proofs.Common.{◌∙◌, sym, ap, Some}
 use Rattle.std.specs.Result.{is_ok}
 use Rattle.turn_lock.proofs.TestLemmas.{says}
 use Rattle.turn_lock.proofs.tests.add.Goals as goal

@@ -1,4 +1,4 @@
-use Rattle.std.proofs.Common.{◌≡◌, ◌∙◌, subst, sym}
+use Rattle.std.proofs.Common.{◌∙◌, subst, sym}
 use Rattle.std.specs.List.{Contains}
 use Rattle.turn_lock.specs.Seat.{after_join}
 use Rattle.turn_lock.proofs.Places.{merged_right}

@@ -1,6 +1,5 @@
-use Rattle.std.proofs.Common.{◌≡◌, ◌∙◌, ap, subst, sym, Some, None, Option}
+use Rattle.std.proofs.Common.{◌∙◌, ap, subst, sym, Some, None, Option}
 use mathlib.Core.Option.{some-injective}
-use Rattle.turn_lock.specs.Seat.{HasWholeHistory}
 use Rattle.turn_lock.proofs.Lists.{same_some}
 use Rattle.turn_lock.proofs.Closing.{closes}
 use Rattle.turn_lock.proofs.lock.TurnLock.close.Goals as goal

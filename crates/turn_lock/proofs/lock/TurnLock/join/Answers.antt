@@ -1,7 +1,7 @@
-use Rattle.std.proofs.Common.{rules, ◌≡◌, ◌∙◌, ap, subst, sym}
+use Rattle.std.proofs.Common.{rules, ◌∙◌, ap, subst, sym}
 use Rattle.std.specs.List.Sorted.{IsStrictlyIncreasing}
 use Rattle.turn_lock.specs.Seat.{held_at, after_join}
-use Rattle.turn_lock.proofs.Joining.{joins, learns_joined, fronts_of_longer}
+use Rattle.turn_lock.proofs.Joining.{joins, learns_joined}
 use Rattle.turn_lock.proofs.Places.{merged_apart}
 use Rattle.turn_lock.proofs.lock.TurnLock.join.Goals as goal
 

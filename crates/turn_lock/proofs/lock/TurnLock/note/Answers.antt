@@ -1,4 +1,4 @@
-use Rattle.std.proofs.Common.{rules, ◌≡◌, ◌≢◌, ◌∙◌, sym, ap, subst}
+use Rattle.std.proofs.Common.{rules, ◌∙◌, sym, ap, subst}
 use Rattle.turn_lock.specs.Seat.{IsServing, with_events}
 use Rattle.turn_lock.proofs.Stages.{serving_is}
 use Rattle.turn_lock.proofs.Counting.{checks, counts, none_came, one_came, with_no_events}

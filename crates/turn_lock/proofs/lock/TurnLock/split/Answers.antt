@@ -1,4 +1,4 @@
-use Rattle.std.proofs.Common.{rules, ◌≡◌, ◌∙◌, ◌+◌, ◌<◌, ◌^◌, ap, arith}
+use Rattle.std.proofs.Common.{rules, ◌∙◌, ◌+◌, ◌<◌, ◌^◌, ap}
 use Rattle.turn_lock.proofs.Splitting.{splits}
 use Rattle.turn_lock.proofs.lock.TurnLock.split.Goals as goal
 

@@ -1,9 +1,9 @@
-use Rattle.std.proofs.Common.{rules, ◌≡◌, ℕ, ◌%◌, ◌^◌, ◌∙◌, ◌∷◌, [], sym, ap, Some, None}
+use Rattle.std.proofs.Common.{rules, ◌∙◌, ◌∷◌, sym, ap, Some}
 use Rattle.atomic_table.specs.Table.{rest}
 use Rattle.turn_lock.specs.Seat.{held_at, at_stage}
 use Rattle.turn_lock.specs.declared.stage.Stage.TheVariants.{Waiting}
 use Rattle.turn_lock.proofs.Drawing.{draws}
-use Rattle.turn_lock.proofs.Looking.{looks, took}
+use Rattle.turn_lock.proofs.Looking.{looks}
 use Rattle.turn_lock.proofs.lock.TurnLock.take.Goals as goal
 
 pub fetch_add-ticket-requires : goal.fetch_add-ticket-requires
