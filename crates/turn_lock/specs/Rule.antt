@@ -11,21 +11,12 @@ use Rattle.turn_lock.specs.declared.stage.Stage.{Stage}
 use Rattle.turn_lock.specs.declared.stage.Stage.TheVariants.{Fresh, Filling, Idle, Waiting}
 use Rattle.turn_lock.specs.declared.stage.Stage.TheVariants.{Serving, Spent}
 use Rattle.turn_lock.specs.Lists.{IsFront}
-use Rattle.turn_lock.specs.Seat.{IsServing, numbers}
+use Rattle.turn_lock.specs.Seat.{IsServing, numbers, unmarked}
 use Rattle.turn_lock.specs.Account.{Queue, Roll, Account}
 
 -- a seat that knows nothing yet
 abbrev pub blank : {E : Type 0} → Stage → ℕ → Known E
-blank stage seats = record {
-  stage = stage;
-  seen = [];
-  told = [];
-  mine = [];
-  number = 0;
-  joined = [];
-  seats = seats;
-  base = 0;
-}
+blank stage seats = record (unmarked 0 []) { stage = stage; seats = seats }
 
 -- the first seat before the lock has its value
 abbrev pub fresh : {E : Type 0} → Known E

@@ -66,8 +66,7 @@ unmarked number history = record {
 
 -- the first seat of a lock whose value stands for this history
 abbrev pub first_seat : {E : Type 0} → List E → Known E
-first_seat history =
-    record (unmarked 0 history) { seats = 1; base = length history }
+first_seat history = record (unmarked 0 history) { seats = 1; base = length history }
 
 -- a seat at this stage that has seen this history
 abbrev pub having_seen : {E : Type 0} → Stage → List E → Known E → Known E
@@ -83,8 +82,7 @@ after_split v = record v { seats = v.seats + 1 }
 
 -- the seat that a split of the first one gives: it has seen as much, and its number is the next
 abbrev pub newcomer : {E : Type 0} → Known E → Known E
-newcomer v =
-    record (unmarked v.seats v.seen) { base = v.base }
+newcomer v = record (unmarked v.seats v.seen) { base = v.base }
 
 -- a seat into which another was joined
 abbrev pub after_join : {E : Type 0} → Known E → Known E → Known E

@@ -14,7 +14,9 @@ use peb_base::Memory;
 use std::alloc::{AllocError, Global};
 use std::sync::Wait;
 use std::test::Fail;
+use std::thread;
 use std::thread::{Threads, for_each_mut, join};
+use std::time::{Clock, Duration};
 
 /// What a seat writes on a tape: its number, and a value.
 #[derive(Clone, Copy)]
@@ -99,13 +101,15 @@ fn add_three<R: Wait>(
     (seat, first.is_ok() && second.is_ok() && third.is_ok())
 }
 
-/// A turn without an event. It leaves the seat's places as they were.
-fn idle_turn<R: Wait>(rt: &R, lock: &TurnLock<Tape>, mut seat: Seat<Tape>) -> Seat<Tape>
+/// A turn without an event, long enough for others to fall asleep. It leaves the seat's places as
+/// they were.
+fn idle_turn<R: Wait + Clock>(rt: &R, lock: &TurnLock<Tape>, mut seat: Seat<Tape>) -> Seat<Tape>
     requires { IsIdle lock.now seat.known.number seat }
     ensures places { result.known.mine ≡ seat.known.mine }
     ensures idle { IsIdle lock.now seat.known.number result }
 {
     let tape = lock.take(rt, &mut seat);
+    thread::sleep(rt, Duration::from_millis(20));
     lock.give_about(&mut seat, tape, &());
     seat
 }
@@ -201,7 +205,11 @@ fn add_by_two<R: Threads + Wait + Sync>(rt: &R, alloc: Global) -> Option<Tape>
 }
 
 /// Two threads take a turn each without an event.
-fn idle_by_two<R: Threads + Wait + Sync>(rt: &R, alloc: Global, tape: Tape) -> Option<Tape> {
+fn idle_by_two<R: Threads + Wait + Clock + Sync>(
+    rt: &R,
+    alloc: Global,
+    tape: Tape,
+) -> Option<Tape> {
     let Opened {
         lock,
         first,
