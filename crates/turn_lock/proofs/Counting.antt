@@ -27,10 +27,12 @@ module _ {V E : Type 0} (stands : V → List E → Type 0) (actor : E → Option
   abbrev Rule : State (Option V) (Known E) → Type 0
   Rule = KeepsRule stands actor
 
+  -- a seat that is served may read the count, which is that of what it has seen
   pub checks : (slots id t : ℕ) (me : Me (Option V) (Known E)) → me.0.stage ≡ Serving t → Allows Rule slots id me 2 (λ n. n) (AfterCheck (step slots 2 0 0 none) me)
   checks slots id t me is s r deep at _ = let k = settled stands actor s id me.0 at (subst Begun (sym is) tt) r in let a : Account E = k.0 in let q : AccountsFor stands actor a s = k.1 in
       (me.0, keeps, tt, still stands actor s 2 id me.0 me.1 at r, (refl, ap (λ (z : List ℕ). get_or z 2 0) q.words ∙ ap (λ (z : List E). length z % 2 ^ 64) (sym (turn_is stands actor a s q id t me.0 at is).0)))
 
+  -- it may count an event that it may give
   counts_one : (e : E) (slots id t : ℕ) (me : Me (Option V) (Known E)) → me.0.stage ≡ Serving t → ((n : ℕ) → actor e ≡ Some n → n ≡ me.0.number) → Allows Rule slots id me 2 (λ n. (n + 1) % 2 ^ 64) (AfterCount (e ∷ []) (step slots 2 1 0 none) me)
   counts_one e slots id t me is own s r deep at _ = let k = settled stands actor s id me.0 at (subst Begun (sym is) tt) r in let a : Account E = k.0 in let q : AccountsFor stands actor a s = k.1 in let v : Known E = me.0 in let w : Known E = with_events (e ∷ []) v in
       let h' : List E = a.history ++ e ∷ [] in let last : ℕ = length a.history in let g' : ℕ → ℕ = put a.roll.giver last id in
@@ -92,6 +94,7 @@ module _ {V E : Type 0} (stands : V → List E → Type 0) (actor : E → Option
         refl,
       )
 
+  -- the same of a list of one event
   pub counts : (es : List E) (slots id : ℕ) (me : Me (Option V) (Known E)) → IsServing me.0.stage → length es ≡ 1 → MayGive actor me.0.number es → Allows Rule slots id me 2 (λ n. (n + 1) % 2 ^ 64) (AfterCount es (step slots 2 1 0 none) me)
   counts [] slots id me turn one own = absurd (omega arith)
   counts (e ∷ []) slots id me turn one own = let t = serving_is me.0.stage turn in counts_one e slots id t.0 me t.1 (λ n is. own e n (contains_first e e [] refl) is)
@@ -101,10 +104,12 @@ module _ {V E : Type 0} (stands : V → List E → Type 0) (actor : E → Option
 pub none_came : {E : Type 0} (xs es : List E) (n : ℕ) → length es ≤ 1 → length (xs ++ es) % 2 ^ 64 ≡ n → n ≡ length xs % 2 ^ 64 → length es ≡ 0
 none_came xs es n few e f = let l = length-append xs es in omega arith
 
+-- an event came where the counts differ
 pub one_came : {E : Type 0} (xs es : List E) (n m : ℕ) → length es ≤ 1 → length (xs ++ es) % 2 ^ 64 ≡ n → m ≡ length xs % 2 ^ 64 → n ≢ m → length es ≡ 1
 one_came xs [] n m few e f other = absurd (other (sym e ∙ (ap (λ (z : List _). length z % 2 ^ 64) (append-nil xs) ∙ sym f)))
 one_came xs (x ∷ es) n m few e f other = omega arith
 
+-- no events change nothing
 pub with_no_events : {E : Type 0} (es : List E) (v : Known E) → length es ≡ 0 → v ≡ with_events es v
 with_no_events [] v e = λ i. record v { seen = sym (append-nil v.seen) i; mine = sym (append-nil v.mine) i }
 with_no_events (x ∷ es) v e = absurd (omega arith)

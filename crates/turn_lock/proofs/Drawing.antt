@@ -19,6 +19,7 @@ module _ {V E : Type 0} (stands : V → List E → Type 0) (actor : E → Option
   abbrev Rule : State (Option V) (Known E) → Type 0
   Rule = KeepsRule stands actor
 
+  -- an idle seat may draw a ticket
   pub draws : (slots id : ℕ) (me : Me (Option V) (Known E)) → me.0.stage ≡ Idle → Allows Rule slots id me 0 (λ n. (n + 1) % 2 ^ 64) (AfterDraw (step slots 0 1 0 none) me)
   draws slots id me idle s r deep at _ = let k = settled stands actor s id me.0 at (subst Begun (sym idle) tt) r in let a : Account E = k.0 in let q : AccountsFor stands actor a s = k.1 in let v : Known E = me.0 in let w : Known E = at_stage (Waiting a.queue.drawn) v in
       let a' : Account E = record a { queue = record a.queue { drawn = a.queue.drawn + 1; taker = put a.queue.taker a.queue.drawn id } } in

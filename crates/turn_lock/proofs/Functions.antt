@@ -2,6 +2,7 @@
 use Rattle.std.proofs.Common.{◌≡◌, ◌≢◌, ℕ, refl}
 use native.Mathlib.Decide.{ℕ_discrete}
 
+-- a, if the fact holds, else b
 abbrev pick : {P : Type 0} → Dec P → ℕ → ℕ → ℕ
 pick (yes _) a b = a
 pick (no _) a b = b
@@ -10,6 +11,7 @@ pick (no _) a b = b
 pub put : (ℕ → ℕ) → ℕ → ℕ → ℕ → ℕ
 put f i c j = pick (ℕ_discrete j i) c (f j)
 
+-- at i it is c
 pub put_here : (f : ℕ → ℕ) (i c j : ℕ) → j ≡ i → put f i c j ≡ c
 unfolding put
 put_here f i c j here = go (ℕ_discrete j i)
@@ -18,6 +20,7 @@ put_here f i c j here = go (ℕ_discrete j i)
     go (yes e) = refl
     go (no n) = absurd (n here)
 
+-- elsewhere it is f
 pub put_else : (f : ℕ → ℕ) (i c j : ℕ) → j ≢ i → put f i c j ≡ f j
 unfolding put
 put_else f i c j other = go (ℕ_discrete j i)
@@ -30,6 +33,7 @@ put_else f i c j other = go (ℕ_discrete j i)
 pub move : ℕ → ℕ → ℕ → ℕ
 move from to j = pick (ℕ_discrete j from) to j
 
+-- `from` is moved
 pub move_here : (from to j : ℕ) → j ≡ from → move from to j ≡ to
 unfolding move
 move_here from to j here = go (ℕ_discrete j from)
@@ -38,6 +42,7 @@ move_here from to j here = go (ℕ_discrete j from)
     go (yes e) = refl
     go (no n) = absurd (n here)
 
+-- nothing else is
 pub move_else : (from to j : ℕ) → j ≢ from → move from to j ≡ j
 unfolding move
 move_else from to j other = go (ℕ_discrete j from)

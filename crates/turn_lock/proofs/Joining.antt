@@ -17,7 +17,7 @@ use Rattle.turn_lock.specs.Rule.{spent, tickets_at, ticket_count, place_count, F
 use Rattle.turn_lock.specs.Steps.{AfterLearn}
 use Rattle.turn_lock.proofs.Functions.{move, move_here, move_else}
 use Rattle.turn_lock.proofs.Lists.{at_below, at_once}
-use Rattle.turn_lock.proofs.Fronts.{front_whole, front_of, front_same, longer_case}
+use Rattle.turn_lock.proofs.Fronts.{front_of, front_same, longer_case}
 use Rattle.turn_lock.proofs.Places.{merged_left, merged_right, merged_either, merged_increasing, length-merged}
 use Rattle.turn_lock.proofs.Stages.{is_live, spent_at, tickets_are, no_serve, serves_at}
 use Rattle.turn_lock.proofs.Views.{ticket_count_set, place_count_set, views_stay, seat_stays}
@@ -27,14 +27,17 @@ module _ {V E : Type 0} (stands : V → List E → Type 0) (actor : E → Option
   abbrev Rule : State (Option V) (Known E) → Type 0
   Rule = KeepsRule stands actor
 
+  -- an idle seat may learn that what it was told is a front of what it has seen
   pub learns : (slots id : ℕ) (me : Me (Option V) (Known E)) → me.0.stage ≡ Idle → length me.0.told ≤ length me.0.seen → Allows Rule slots id me 0 (λ n. n) (AfterLearn (step slots 0 0 0 none) me)
   learns slots id me idle short s r deep at _ = let k = settled stands actor s id me.0 at (subst Begun (sym idle) tt) r in let a : Account E = k.0 in let q : AccountsFor stands actor a s = k.1 in let f : Fits a id me.0 = q.each id me.0 at in
       (me.0, keeps, tt, still stands actor s 0 id me.0 me.1 at r, (refl, front_of a.history me.0.seen me.0.told f.seen f.told short, (f.knows (is_live me.0.stage Idle idle tt)).ascends))
 
+  -- of two fronts of a history both the longer and the shorter are fronts of it
   longer_front : (h xs ys : List E) → IsFront xs h → IsFront ys h → IsFront (longer xs ys) h × IsFront (shorter xs ys) h × (length xs ≤ length (longer xs ys)) × (length ys ≤ length (longer xs ys)) × (length (shorter xs ys) ≤ length (longer xs ys))
   longer_front h xs ys s t = longer_case (λ u v. IsFront u h × IsFront v h × (length xs ≤ length u) × (length ys ≤ length u) × (length v ≤ length u)) xs ys
       (λ l. (t, s, omega arith, omega arith, omega arith)) (λ l. (s, t, omega arith, omega arith, omega arith))
 
+  -- an idle seat that isn't the first may be joined into another idle one
   pub joins : (id : ℕ) (v : Known E) (other : ℕ) (w : Known E) → v.stage ≡ Idle → w.stage ≡ Idle → w.number ≢ 0 → Joins Rule id v other w (after_join v w) spent
   joins id v other w idle idle' later s r at apart there' = let k = settled stands actor s id v at (subst Begun (sym idle) tt) r in let a : Account E = k.0 in let q : AccountsFor stands actor a s = k.1 in let b : Known E = after_join v w in
       let vs : List (Known E) = set s.views id b in let there : get_elem? s.views other ≡ some w = sym (set_else s.views id other b apart) ∙ there' in let us : List (Known E) = set vs other spent in
@@ -119,13 +122,11 @@ module _ {V E : Type 0} (stands : V → List E → Type 0) (actor : E → Option
         },
       )
 
+  -- the shorter of two lists is no longer than the longer
   pub shorter_below : (xs ys : List E) → length (shorter xs ys) ≤ length (longer xs ys)
   shorter_below xs ys = longer_case (λ u v. length v ≤ length u) xs ys (λ l. omega arith) (λ l. omega arith)
 
-  -- the longer of two lists, if it begins with the shorter, begins with both
-  pub fronts_of_longer : (xs ys : List E) → IsFront (shorter xs ys) (longer xs ys) → IsFront xs (longer xs ys) × IsFront ys (longer xs ys)
-  fronts_of_longer xs ys = longer_case (λ u v. IsFront v u → IsFront xs u × IsFront ys u) xs ys (λ _ s. (s, front_whole ys)) (λ _ s. (front_whole xs, s))
-
 module _ {V E : Type 0} (stands : V → List E → Type 0) (actor : E → Option ℕ) where
+  -- the same of a seat into which another was just joined
   pub learns_joined : (slots id : ℕ) (me : Me (Option V) (Known E)) (v w : Known E) → me.0 ≡ after_join v w → v.stage ≡ Idle → Allows (KeepsRule stands actor) slots id me 0 (λ n. n) (AfterLearn (step slots 0 0 0 none) me)
   learns_joined slots id me v w is idle = learns stands actor slots id me (ap (λ (z : Known E). z.stage) is ∙ idle) (subst (λ (z : Known E). length z.told ≤ length z.seen) (sym is) (shorter_below stands actor v.seen w.seen))

@@ -1,5 +1,5 @@
 -- A seat looks whether it is served.
-use Rattle.std.proofs.Common.{◌≡◌, ℕ, ◌+◌, ◌%◌, ◌^◌, ◌<◌, ◌≤◌, List, [], ◌∷◌, length, get_or, set, sym, refl, ap, ◌∙◌, subst, inr, ⊎_elim, arith, Option, Some, None, length-set}
+use Rattle.std.proofs.Common.{◌≡◌, ℕ, ◌+◌, ◌%◌, ◌^◌, ◌<◌, ◌≤◌, List, ◌∷◌, length, get_or, set, sym, refl, ap, ◌∙◌, subst, inr, ⊎_elim, arith, Option, Some, length-set}
 use Rattle.std.specs.List.{Contains}
 use mathlib.Core.Option.{none, some, some-injective}
 use mathlib.Core.Option as maybe
@@ -7,16 +7,15 @@ use mathlib.Core.Logic.{dite}
 use native.Mathlib.Decide.{ℕ_discrete}
 use lib.ListN.{get_elem?}
 use lib.Seq.{set-get_or}
-use Rattle.atomic_table.specs.Table.{State, Me, step, Act, keeps, takes, stepped, Valid, carried_after, Allows, rest}
+use Rattle.atomic_table.specs.Table.{State, Me, step, Act, keeps, takes, stepped, Valid, carried_after, Allows}
 use Rattle.atomic_table.proofs.Lists.{set_here}
 use Rattle.turn_lock.specs.declared.known.Known.{Known}
 use Rattle.turn_lock.specs.declared.stage.Stage.TheVariants.{Waiting, Serving}
-use Rattle.turn_lock.specs.Lists.{IsFront}
-use Rattle.turn_lock.specs.Seat.{IsServing, held_at, HasOwnEvents, HasPlaces, having_seen, at_stage}
+use Rattle.turn_lock.specs.Seat.{IsServing, HasOwnEvents, HasPlaces, having_seen}
 use Rattle.turn_lock.specs.Account.{Account}
 use Rattle.turn_lock.specs.Rule.{tickets_at, ticket_count, place_count, IsLive, HasTicket, Fits, IsAtHome, IsAway, AccountsFor, KeepsRule}
-use Rattle.turn_lock.specs.Steps.{IsServed, AfterLook}
-use Rattle.turn_lock.proofs.Lists.{at_below, at_once, at_get, same_some}
+use Rattle.turn_lock.specs.Steps.{AfterLook}
+use Rattle.turn_lock.proofs.Lists.{at_below, at_once, at_get}
 use Rattle.turn_lock.proofs.Fronts.{front_whole, length_front}
 use Rattle.turn_lock.proofs.Stages.{same_ticket, is_live, tickets_are, no_serve, serves_at, serves_once}
 use Rattle.turn_lock.proofs.Views.{ticket_count_set, ticket_count_below, place_count_set, views_stay, seat_stays}
@@ -38,15 +37,18 @@ module _ {V E : Type 0} (stands : V → List E → Type 0) (actor : E → Option
       let same : u.0 ≡ id = serves_once a.queue id u.0 t o.stage mine (serves_at o.stage a.queue.served u.1.2.0) (q.each u.0 o u.1.1).ticket in
       let e : o ≡ v = at_once s.views u.0 id o v same u.1.1 at in absurd (no_serve v.stage (Waiting t) is (λ b. b) (subst (λ (z : Known E). IsServing z.stage) e (serves_at o.stage a.queue.served u.1.2.0)))) q.value
 
+  -- each event that carries a number of a live seat stands at a place of its own
   complete_at : (a : Account E) (s : State (Option V) (Known E)) (q : AccountsFor stands actor a s) (id t : ℕ) (v : Known E) → get_elem? s.views id ≡ some v → IsLive v.stage → HasOwnEvents actor (having_seen (Serving t) a.history v)
   complete_at a s q id t v at live p n e low got is has = let there = at_get a.history p e got in let k = (q.each id v at).knows live in let f = k.from in let c = q.carried p n e (omega arith) there is in
       let g = q.given p (omega arith) (at_below a.history p e there) in let same : a.roll.giver p ≡ id = c.0 ∙ (k.numbers n has).0 in
       subst (λ (z : Known E). Contains z.mine p) (at_once s.views (a.roll.giver p) id g.0 v same g.1 at) g.2
 
+  -- the places of a live seat ascend, and are of events that came
   placed_at : (a : Account E) (s : State (Option V) (Known E)) (q : AccountsFor stands actor a s) (id t : ℕ) (v : Known E) → get_elem? s.views id ≡ some v → IsLive v.stage → HasPlaces (having_seen (Serving t) a.history v)
   placed_at a s q id t v at live = let f : Fits a id v = q.each id v at in let k = f.knows live in let l = length_front a.history v.seen f.seen in
       record { ascend = k.ascends; within = λ p h. let m = k.mine p h in let low = m.1 in let high = m.2 in let b = k.from in (omega arith, omega arith) }
 
+  -- a seat that waits takes the slot where its ticket is found
   looks_hit : (slots id t : ℕ) (me : Me (Option V) (Known E)) (s : State (Option V) (Known E)) (r : Rule s) (at : get_elem? s.views id ≡ some me.0) → me.0.stage ≡ Waiting t → get_or s.words 1 0 ≡ t % 2 ^ 64
       → (w : Known E) × (x : Act (Option V)) × Valid s.homes me.1 x × Rule (stepped s 1 (get_or s.words 1 0) id me.1 w x) × AfterLook stands actor (step slots 1 0 0 none) me (get_or s.words 1 0) (w, carried_after me.1 x)
   looks_hit slots id t me s r at is hit = let k = settled stands actor s id me.0 at (subst Begun (sym is) tt) r in let a : Account E = k.0 in let q : AccountsFor stands actor a s = k.1 in let v : Known E = me.0 in let w : Known E = having_seen (Serving t) a.history v in
@@ -84,38 +86,8 @@ module _ {V E : Type 0} (stands : V → List E → Type 0) (actor : E → Option
         ),
       )
 
+  -- a seat that waits may look which ticket is served
   pub looks : (slots id t : ℕ) (me : Me (Option V) (Known E)) → me.0.stage ≡ Waiting t → Allows Rule slots id me 1 (λ n. n) (AfterLook stands actor (step slots 1 0 0 none) me)
   looks slots id t me is s r deep at _ = dite (ℕ_discrete (get_or s.words 1 0) (t % 2 ^ 64))
       (λ hit. looks_hit slots id t me s r at is hit)
       (λ miss. (me.0, keeps, tt, still stands actor s 1 id me.0 me.1 at r, λ t' is'. ((λ hit. absurd (miss (hit ∙ ap (λ (z : ℕ). z % 2 ^ 64) (sym (same_ticket me.0.stage t t' is is'))))), λ _. refl)))
-
--- the head of a list of slots in hand
-abbrev head_or : {V : Type 0} → Option V → List (ℕ × Option V) → Option V
-head_or d [] = d
-head_or d (x ∷ xs) = x.1
-
--- what a seat knows and holds that has taken its turn, and the value that it got
-pub record Took {V E : Type 0} (stands : V → List E → Type 0) (actor : E → Option ℕ) (v : Known E) (m : Me (Option V) (Known E)) (got : V) : Type 0 where
-  pub value : stands got m.0.seen
-  pub turn : IsServing m.0.stage
-  pub held : m.1 ≡ held_at m.0.stage
-  pub front : IsFront v.seen m.0.seen
-  pub own_events : HasOwnEvents actor m.0
-  pub places : HasPlaces m.0
-  pub known : m.0 ≡ having_seen m.0.stage m.0.seen v
-
-module _ {V E : Type 0} (stands : V → List E → Type 0) (actor : E → Option ℕ) where
-  pub took : (t : ℕ) (v : Known E) (m w m' : Me (Option V) (Known E)) (got : Option V) (value : V) → m ≡ (at_stage (Waiting t) v, []) → IsServed stands actor t m w → w.1 ≡ (0, got) ∷ rest w.1 → m' ≡ (w.0, (0, None) ∷ rest w.1) → got ≡ Some value → Took stands actor v m' value
-  took t v m w m' got value is s held after found = let x : V = s.0 in let h : List E = s.1 in
-      let now : w ≡ (having_seen (Serving t) h v, (0, Some x) ∷ []) = s.2 ∙ (λ i. (having_seen (Serving t) h (is i).0, (0, Some x) ∷ (is i).1)) in
-      let e : m' ≡ (having_seen (Serving t) h v, (0, None) ∷ []) = after ∙ (λ i. ((now i).0, (0, None) ∷ rest (now i).1)) in
-      let same : x ≡ value = same_some x value (ap (λ (z : Me (Option V) (Known E)). head_or None z.1) (sym now) ∙ (ap (head_or None) held ∙ found)) in
-      subst (λ (z : Me (Option V) (Known E)). Took stands actor v z value) (sym e) record {
-        value = subst (λ (z : V). stands z h) same s.4;
-        turn = tt;
-        held = refl;
-        front = subst (λ (z : Me (Option V) (Known E)). IsFront z.0.seen h) is s.3;
-        own_events = subst (λ (z : Me (Option V) (Known E)). HasOwnEvents actor z.0) now s.5;
-        places = subst (λ (z : Me (Option V) (Known E)). HasPlaces z.0) now s.6;
-        known = refl;
-      }

@@ -16,10 +16,12 @@ use Rattle.turn_lock.proofs.Lists.{at_below, alone}
 use Rattle.turn_lock.proofs.Contained.{contains_none, contains_alone}
 use Rattle.turn_lock.proofs.Fronts.{front_whole}
 
+-- the stage of the first seat before it takes the slot
 abbrev IsFresh : Stage → Type 0
 IsFresh Fresh = Unit {0}
 IsFresh _ = ⊥
 
+-- the stage of the first seat with the slot in hand
 abbrev IsFilling : Stage → Type 0
 IsFilling Filling = Unit {0}
 IsFilling _ = ⊥
@@ -28,6 +30,7 @@ module _ {V E : Type 0} (stands : V → List E → Type 0) (actor : E → Option
   abbrev Rule : State (Option V) (Known E) → Type 0
   Rule = KeepsRule stands actor
 
+  -- where a seat is fresh, the lock is as it was made
   grab_at : (id : ℕ) (s : State (Option V) (Known E)) → Rule s → get_elem? s.views id ≡ some fresh → (s.words ≡ 0 ∷ 0 ∷ 0 ∷ []) × (s.views ≡ fresh ∷ []) × (s.homes ≡ some None ∷ []) × (id ≡ 0)
   grab_at id s r at = ⊎_elim
       (λ (o : IsOpening stands actor s). ⊎_elim
@@ -35,6 +38,7 @@ module _ {V E : Type 0} (stands : V → List E → Type 0) (actor : E → Option
       (λ (t : (s.views ≡ filling ∷ []) × (s.homes ≡ none ∷ [])). absurd (subst IsFilling (ap (λ (z : Known E). z.stage) (alone filling id fresh (subst (λ (z : List (Known E)). get_elem? z id ≡ some fresh) t.0 at)).1) tt)) o.1)
       (λ (k : (a : Account E) × AccountsFor stands actor a s). absurd (k.1.each id fresh at).ticket) r
 
+  -- a fresh seat may take the slot
   grabs_fresh : (slots id : ℕ) → Allows Rule slots id (fresh, []) 0 (λ n. n) (AfterGrab (step slots 0 0 0 none) (fresh, []))
   grabs_fresh slots id s r deep at _ = let o = grab_at id s r at in (
     filling,
@@ -44,9 +48,11 @@ module _ {V E : Type 0} (stands : V → List E → Type 0) (actor : E → Option
     refl,
   )
 
+  -- the same of a seat that is known to be fresh
   pub grabs : (slots id : ℕ) (me : Me (Option V) (Known E)) → me ≡ (fresh, []) → Allows Rule slots id me 0 (λ n. n) (AfterGrab (step slots 0 0 0 none) me)
   grabs slots id me is = subst (λ (m : Me (Option V) (Known E)). Allows Rule slots id m 0 (λ n. n) (AfterGrab (step slots 0 0 0 none) m)) (sym is) (grabs_fresh slots id)
 
+  -- where a seat fills the slot, it is the only one and the slot is out
   begin_at : (id : ℕ) (s : State (Option V) (Known E)) → Rule s → get_elem? s.views id ≡ some filling → (s.words ≡ 0 ∷ 0 ∷ 0 ∷ []) × (s.views ≡ filling ∷ []) × (s.homes ≡ none ∷ []) × (id ≡ 0)
   begin_at id s r at = ⊎_elim
       (λ (o : IsOpening stands actor s). ⊎_elim
@@ -63,6 +69,7 @@ module _ {V E : Type 0} (stands : V → List E → Type 0) (actor : E → Option
     top = 0;
   }
 
+  -- that account accounts for the lock with its value
   first_kept : (h : List E) (x : V) → stands x h → AccountsFor stands actor (first_account h) record { words = 0 ∷ 0 ∷ length h % 2 ^ 64 ∷ []; homes = some (Some x) ∷ []; views = first_seat h ∷ [] }
   first_kept h x st = record {
     words = refl;
@@ -89,6 +96,7 @@ module _ {V E : Type 0} (stands : V → List E → Type 0) (actor : E → Option
     value = inl (x, refl, st, λ j v e s. subst (λ (z : Known E). IsServing z.stage) (sym (alone (first_seat h) j v e).1) s);
   }
 
+  -- the first seat may bring the slot home with a value that stands for the history
   begins_filled : (h : List E) (slots id : ℕ) (x : V) → stands x h → Allows Rule slots id (filling, (0, Some x) ∷ []) 2 (λ _. length h % 2 ^ 64) (λ _. AfterBegin h (step slots 2 (length h % 2 ^ 64) 0 none) (filling, (0, Some x) ∷ []) (length h % 2 ^ 64))
   begins_filled h slots id x st s r deep at _ = let o = begin_at id s r at in (
     first_seat h,
@@ -98,5 +106,6 @@ module _ {V E : Type 0} (stands : V → List E → Type 0) (actor : E → Option
     refl,
   )
 
+  -- the same of a seat and a count that are known
   pub begins : (h : List E) (n slots id : ℕ) (me : Me (Option V) (Known E)) (x : V) → me ≡ (filling, (0, Some x) ∷ []) → stands x h → length h % 2 ^ 64 ≡ n → Allows Rule slots id me 2 (λ _. n) (λ _. AfterBegin h (step slots 2 n 0 none) me n)
   begins h n slots id me x is st long = subst (λ (z : ℕ × Me (Option V) (Known E)). Allows Rule slots id z.1 2 (λ _. z.0) (λ _. AfterBegin h (step slots 2 z.0 0 none) z.1 z.0)) (λ k. (long k, sym is k)) (begins_filled h slots id x st)

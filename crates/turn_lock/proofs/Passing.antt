@@ -19,6 +19,7 @@ module _ {V E : Type 0} (stands : V → List E → Type 0) (actor : E → Option
   abbrev Rule : State (Option V) (Known E) → Type 0
   Rule = KeepsRule stands actor
 
+  -- a seat that is served, with the value in hand, may bring it home and pass on
   passes_with : (slots id t : ℕ) (v : Known E) (x : V) → v.stage ≡ Serving t → stands x v.seen → Allows Rule slots id (v, (0, Some x) ∷ []) 1 (λ n. (n + 1) % 2 ^ 64) (AfterPass (step slots 1 1 0 none) (v, (0, Some x) ∷ []))
   passes_with slots id t v x is st s r deep at _ = let k = settled stands actor s id v at (subst Begun (sym is) tt) r in let a : Account E = k.0 in let q : AccountsFor stands actor a s = k.1 in let w : Known E = at_stage Idle v in
       let a' : Account E = record a { queue = record a.queue { served = a.queue.served + 1 } } in let f : Fits a id v = q.each id v at in let live : IsLive v.stage = is_live v.stage (Serving t) is tt in
@@ -54,5 +55,6 @@ module _ {V E : Type 0} (stands : V → List E → Type 0) (actor : E → Option
         refl,
       )
 
+  -- the same of a seat whose slot is known
   pub passes : (slots id t : ℕ) (me : Me (Option V) (Known E)) (x : V) → me.0.stage ≡ Serving t → me.1 ≡ (0, Some x) ∷ [] → stands x me.0.seen → Allows Rule slots id me 1 (λ n. (n + 1) % 2 ^ 64) (AfterPass (step slots 1 1 0 none) me)
   passes slots id t me x is held st = subst (λ (c : List (ℕ × Option V)). Allows Rule slots id (me.0, c) 1 (λ n. (n + 1) % 2 ^ 64) (AfterPass (step slots 1 1 0 none) (me.0, c))) (sym held) (passes_with slots id t me.0 x is st)

@@ -21,6 +21,7 @@ module _ {V E : Type 0} (stands : V → List E → Type 0) (actor : E → Option
   abbrev Rule : State (Option V) (Known E) → Type 0
   Rule = KeepsRule stands actor
 
+  -- the first seat, if it is idle, may split a newcomer off
   pub splits : (id : ℕ) (v : Known E) → v.stage ≡ Idle → v.number ≡ 0 → v.seats + 1 < 2 ^ 64 → Splits Rule id v (after_split v) (newcomer v)
   splits id v idle first room s r at = let k = settled stands actor s id v at (subst Begun (sym idle) tt) r in let a : Account E = k.0 in let q : AccountsFor stands actor a s = k.1 in let w : Known E = after_split v in let x : Known E = newcomer v in
       let f : Fits a id v = q.each id v at in let kn = f.knows (is_live v.stage Idle idle tt) in let many : v.seats ≡ a.roll.seats = kn.count first in

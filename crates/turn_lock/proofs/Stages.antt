@@ -16,11 +16,13 @@ live_or (Waiting t) = inl tt
 live_or (Serving t) = inl tt
 live_or Spent = inr tt
 
+-- the ticket at a stage, or another number
 pub ticket_or : ℕ → Stage → ℕ
 ticket_or d (Waiting t) = t
 ticket_or d (Serving t) = t
 ticket_or d _ = d
 
+-- a seat that waits has one ticket
 pub same_ticket : (g : Stage) (t u : ℕ) → g ≡ Waiting t → g ≡ Waiting u → t ≡ u
 unfolding ticket_or
 same_ticket g t u e f = ap (ticket_or 0) (sym e ∙ f)
@@ -29,12 +31,15 @@ same_ticket g t u e f = ap (ticket_or 0) (sym e ∙ f)
 pub is_live : (g h : Stage) → g ≡ h → IsLive h → IsLive g
 is_live g h e l = subst IsLive (sym e) l
 
+-- the tickets at a stage that is known
 pub tickets_are : (g h : Stage) → g ≡ h → tickets_at g ≡ tickets_at h
 tickets_are g h e = ap tickets_at e
 
+-- a seat at a stage at which none is served isn't served
 pub no_serve : (g h : Stage) → g ≡ h → (IsServing h → ⊥) → IsServing g → ⊥
 no_serve g h e n s = n (subst IsServing e s)
 
+-- a seat that serves a ticket is served
 pub serves_at : (g : Stage) (t : ℕ) → g ≡ Serving t → IsServing g
 serves_at g t e = subst IsServing (sym e) tt
 
@@ -66,6 +71,7 @@ module _ (q : Queue) where
   serves_once id j t (Waiting u) is s h = absurd s
   serves_once id j t Spent is s h = absurd s
 
+-- a spent seat is at a spent stage
 pub spent_at : (g h : Stage) → g ≡ h → IsSpent g → IsSpent h
 spent_at g h e b = subst IsSpent e b
 

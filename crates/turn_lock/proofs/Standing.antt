@@ -28,11 +28,13 @@ module _ {V E : Type 0} (stands : V → List E → Type 0) (actor : E → Option
   pub still : (s : State (Option V) (Known E)) (i id : ℕ) (v : Known E) (cs : List (ℕ × Option V)) → get_elem? s.views id ≡ some v → Rule s → Rule (stepped s i (get_or s.words i 0) id cs v keeps)
   still s i id v cs at r = subst (λ (z : List ℕ × List (Known E)). Rule record { words = z.0; homes = s.homes; views = z.1 }) (λ k. (sym (set-get_or s.words i 0) k, sym (set_again s.views id v at) k)) r
 
+  -- before the lock has its value a seat is fresh or fills the slot
   opening_stage : (s : State (Option V) (Known E)) (id : ℕ) (v : Known E) → get_elem? s.views id ≡ some v → IsOpening stands actor s → (v ≡ fresh) ⊎ (v ≡ filling)
   opening_stage s id v at o = ⊎_elim
       (λ (t : (s.views ≡ fresh ∷ []) × (s.homes ≡ some None ∷ [])). inl (sym (alone fresh id v (subst (λ (z : List (Known E)). get_elem? z id ≡ some v) t.0 at)).1))
       (λ (t : (s.views ≡ filling ∷ []) × (s.homes ≡ none ∷ [])). inr (sym (alone filling id v (subst (λ (z : List (Known E)). get_elem? z id ≡ some v) t.0 at)).1)) o.1
 
+  -- where a seat is neither, there is an account
   pub settled : (s : State (Option V) (Known E)) (id : ℕ) (v : Known E) → get_elem? s.views id ≡ some v → Begun v.stage → Rule s → (a : Account E) × AccountsFor stands actor a s
   settled s id v at b r = ⊎_elim (λ (o : IsOpening stands actor s). absurd (⊎_elim (λ e. subst Begun (ap (λ (z : Known E). z.stage) e) b) (λ e. subst Begun (ap (λ (z : Known E). z.stage) e) b) (opening_stage s id v at o)))
       (λ (k : (a : Account E) × AccountsFor stands actor a s). k) r

@@ -12,6 +12,7 @@ use Rattle.turn_lock.proofs.Contained.{contains_none, contains_first, contains_n
 use Rattle.turn_lock.proofs.Places.{merged_either}
 
 module _ {E : Type 0} (actor : E → Option ℕ) where
+  -- a seat may give back what it has seen with an event more
   says_of : (v : Known E) (said : List E) → length said ≤ 1 → MayGive actor v.number said → Says actor v (v.seen ++ said)
   says_of v said few own = record {
     whole = ap (λ l. v.seen ++ l) (drop-append_seam v.seen said);
@@ -27,6 +28,7 @@ module _ {E : Type 0} (actor : E → Option ℕ) where
       (says_of v [] (omega arith) (λ e n h a. absurd (contains_none e h)))
 
 module _ {E : Type 0} (u v w : Known E) where
+  -- the numbers of a first seat into which the seats 1 and 2 were joined
   three_at : u.number ≡ 0 → v.number ≡ 1 → w.number ≡ 2 → (n : ℕ) → n < 3 → Contains (numbers (after_join (after_join u v) w)) n
   three_at d e f zero l = contains_first u.number 0 (after_join (after_join u v) w).joined d
   three_at d e f (suc zero) l = contains_next u.number (after_join (after_join u v) w).joined 1
@@ -35,6 +37,7 @@ module _ {E : Type 0} (u v w : Known E) where
       (Contains-append_right (u.joined ++ numbers v) (numbers w) 2 (contains_first w.number 2 w.joined f))
   three_at d e f (suc (suc (suc n))) l = absurd (omega arith)
 
+  -- the same of a seat that is known to be so
   pub three_numbers : (x : Known E) → x ≡ after_join (after_join u v) w → u.number ≡ 0 → v.number ≡ 1 → w.number ≡ 2 → u.seats ≡ 3 → (n : ℕ) → n < x.seats → Contains (numbers x) n
   three_numbers x is d e f three n l =
       let many : x.seats ≡ 3 = (λ i. (is i).seats) ∙ three in

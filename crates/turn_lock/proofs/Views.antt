@@ -11,6 +11,7 @@ use Rattle.turn_lock.specs.declared.stage.Stage.TheVariants.{Fresh, Filling, Idl
 use Rattle.turn_lock.specs.Rule.{tickets_at, ticket_count, place_count}
 use Rattle.turn_lock.proofs.Lists.{none_there, at_below}
 
+-- a seat has one ticket at most
 tickets_one : (g : Stage) → tickets_at g ≤ 1
 tickets_one Fresh = omega arith
 tickets_one Filling = omega arith
@@ -20,28 +21,34 @@ tickets_one (Serving t) = omega arith
 tickets_one Spent = omega arith
 
 module _ {E : Type 0} where
+  -- the tickets after a seat changed
   pub ticket_count_set : (vs : List (Known E)) (j : ℕ) (v w : Known E) → get_elem? vs j ≡ some v → ticket_count (set vs j w) + tickets_at v.stage ≡ ticket_count vs + tickets_at w.stage
   ticket_count_set [] j v w e = absurd (none_there j v e)
   ticket_count_set (x ∷ xs) zero v w e = let s : tickets_at x.stage ≡ tickets_at v.stage = ap (λ (z : Known E). tickets_at z.stage) (some-injective x v e) in omega arith
   ticket_count_set (x ∷ xs) (suc j) v w e = let r = ticket_count_set xs j v w e in omega arith
 
+  -- there are no more tickets than seats
   pub ticket_count_below : (vs : List (Known E)) → ticket_count vs ≤ length vs
   ticket_count_below [] = omega arith
   ticket_count_below (x ∷ xs) = let a = tickets_one x.stage in let r = ticket_count_below xs in omega arith
 
+  -- the tickets with one seat more
   pub ticket_count_snoc : (vs : List (Known E)) (w : Known E) → ticket_count (vs ++ w ∷ []) ≡ ticket_count vs + tickets_at w.stage
   ticket_count_snoc [] w = omega arith
   ticket_count_snoc (x ∷ xs) w = let r = ticket_count_snoc xs w in omega arith
 
+  -- the places after a seat changed
   pub place_count_set : (vs : List (Known E)) (j : ℕ) (v w : Known E) → get_elem? vs j ≡ some v → place_count (set vs j w) + length v.mine ≡ place_count vs + length w.mine
   place_count_set [] j v w e = absurd (none_there j v e)
   place_count_set (x ∷ xs) zero v w e = let s : length x.mine ≡ length v.mine = ap (λ (z : Known E). length z.mine) (some-injective x v e) in omega arith
   place_count_set (x ∷ xs) (suc j) v w e = let r = place_count_set xs j v w e in omega arith
 
+  -- the places with one seat more
   pub place_count_snoc : (vs : List (Known E)) (w : Known E) → place_count (vs ++ w ∷ []) ≡ place_count vs + length w.mine
   place_count_snoc [] w = omega arith
   place_count_snoc (x ∷ xs) w = let r = place_count_snoc xs w in omega arith
 
+  -- there are no places where no seat has one
   place_count_none : (vs : List (Known E)) → ((j : ℕ) (u : Known E) → get_elem? vs j ≡ some u → u.mine ≡ []) → place_count vs ≡ 0
   place_count_none [] f = refl
   place_count_none (x ∷ xs) f = let e : length x.mine ≡ 0 = ap (λ (z : List ℕ). length z) (f 0 x refl) in let r = place_count_none xs (λ j u e. f (suc j) u e) in omega arith
