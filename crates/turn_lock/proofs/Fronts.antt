@@ -32,7 +32,7 @@ module _ {A : Type 0} where
   unfolding tail
   cons_tail x y xs ys e = ap tail e
 
-  -- of two beginnings of one list the longer begins with the shorter
+  -- of two fronts of one list the shorter is a front of the longer
   two_fronts : (h xs ys r t : List A) → h ≡ xs ++ r → h ≡ ys ++ t → length ys ≤ length xs → IsFront ys xs
   two_fronts h xs [] r t e f l = (xs, refl)
   two_fronts h [] (y ∷ ys) r t e f l = absurd (omega arith)
@@ -53,7 +53,7 @@ module _ {A : Type 0} where
   pub front_of_none : (h xs : List A) → IsFront xs h → h ≡ [] → xs ≡ []
   front_of_none h xs s e = no_rest xs s.0 (sym e ∙ s.1)
 
-  -- a beginning that is as long is the list
+  -- a front that is as long is the list
   pub front_same : (h xs : List A) → IsFront xs h → length h ≤ length xs → xs ≡ h
   front_same h xs s l = let t = front_of h xs h s (front_whole h) l in let n = length_front h xs s in let m : length xs ≡ length (h ++ t.0) = ap length t.1 in
       let k : length t.0 ≡ 0 = omega (arith, length-append h t.0) in t.1 ∙ (ap (λ l. h ++ l) (empty t.0 k) ∙ append-nil h)

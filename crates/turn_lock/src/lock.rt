@@ -91,6 +91,7 @@ impl<V: Counted> TurnLock<V> {
     /// Waits for the seat's turn, and takes the value. It stands for all events so far, and the seat
     /// has then seen these. It takes no memory.
     pub fn take<R: Wait>(&self, rt: &R, seat: &mut Seat<V>) -> V
+        // what it asks
         requires lock { seat.old.lock ≡ self.now }
         requires rests { seat.old.known.stage ≡ Idle }
 
@@ -138,13 +139,19 @@ impl<V: Counted> TurnLock<V> {
     /// since it was taken, if any. It takes no memory.
     pub fn give(&self, seat: &mut Seat<V>, value: V)
         ghost said: { List V.Event }
+
+        // what it asks
         requires lock { seat.old.lock ≡ self.now }
         requires turn { IsServing seat.old.known.stage }
         requires value { V.stands value (seat.old.known.seen ++ said) }
+
+        // what may be said
         requires one { length said ≤ 1 }
         requires own { MayGive V.actor seat.old.known.number said }
-        ensures lock { seat.new.lock ≡ seat.old.lock }
+
+        // what the seat has then, and what stays
         ensures given { seat.new.known ≡ at_stage Idle (with_events said seat.old.known) }
+        ensures lock { seat.new.lock ≡ seat.old.lock }
     {
         self.note::<Brand>(&mut seat.place, &value);
         let shared = &self.table.shared;
@@ -159,13 +166,19 @@ impl<V: Counted> TurnLock<V> {
     /// The same. What the caller says may be computed from `about`, which isn't touched.
     pub fn give_about<X>(&self, seat: &mut Seat<V>, value: V, about: &X)
         ghost said: { List V.Event }
+
+        // what it asks
         requires lock { seat.old.lock ≡ self.now }
         requires turn { IsServing seat.old.known.stage }
         requires value { V.stands value (seat.old.known.seen ++ said) }
+
+        // what may be said
         requires one { length said ≤ 1 }
         requires own { MayGive V.actor seat.old.known.number said }
-        ensures lock { seat.new.lock ≡ seat.old.lock }
+
+        // what the seat has then, and what stays
         ensures given { seat.new.known ≡ at_stage Idle (with_events said seat.old.known) }
+        ensures lock { seat.new.lock ≡ seat.old.lock }
     {
         let _ = about;
         self.give(seat, value);
@@ -173,14 +186,19 @@ impl<V: Counted> TurnLock<V> {
 
     // Counts the event that the value has had since the seat took it, if any.
     fn note<K: Names<V::Event>>(&self, place: &mut Place<V>, value: &V)
+        // what it asks
         requires lock { place.old.table_id ≡ self.now }
         requires turn { IsServing place.old.me.0.stage }
         requires held { place.old.me.1 ≡ held_at place.old.me.0.stage }
         requires value { V.stands value.now (place.old.me.0.seen ++ K.named) }
+
+        // what may be named
         requires one { length K.named ≤ 1 }
         requires own { MayGive V.actor place.old.me.0.number K.named }
-        ensures lock { place.new.table_id ≡ place.old.table_id }
+
+        // what the seat has then, and what stays
         ensures noted { place.new.me ≡ (with_events K.named place.old.me.0, place.old.me.1) }
+        ensures lock { place.new.table_id ≡ place.old.table_id }
     {
         let shared = &self.table.shared;
         let known = shared.load::<Check>(place, EVENTS);
@@ -194,13 +212,18 @@ impl<V: Counted> TurnLock<V> {
     /// Splits a further seat off the first one. It has seen as much, and no event is its own.
     /// `Memory` is answered after 2^64 - 1 seats alone, and changes nothing.
     pub fn split(&self, seat: &mut Seat<V>) -> Result<Seat<V>, Memory>
+        // what it asks
         requires lock { seat.old.lock ≡ self.now }
         requires rests { seat.old.known.stage ≡ Idle }
         requires first { seat.old.known.number ≡ 0 }
+
+        // what it gives, and what it leaves
         ensures ok { IfOk result (λ other. other
             ≡ record { lock = seat.old.lock; known = newcomer seat.old.known }) }
         ensures counted { OnOk result (seat.new
             ≡ record { lock = seat.old.lock; known = after_split seat.old.known }) }
+
+        // when it is refused
         ensures last { OnErr result (seat.old.known.seats + 1 ≡ 2 ^ 64) }
         ensures err { OnErr result (seat.new ≡ seat.old) }
     {
@@ -214,11 +237,16 @@ impl<V: Counted> TurnLock<V> {
 
     /// Takes in what another seat has seen, its events and its numbers. No event is both seats'.
     pub fn join(&self, seat: &mut Seat<V>, other: Seat<V>)
+        // what it asks
         requires lock { (seat.old.lock ≡ self.now) × (other.lock ≡ self.now) }
         requires rests { (seat.old.known.stage ≡ Idle) × (other.known.stage ≡ Idle) }
         requires later { other.known.number ≢ 0 }
-        ensures lock { seat.new.lock ≡ seat.old.lock }
+
+        // what the seat has then, and what stays
         ensures joined { seat.new.known ≡ after_join seat.old.known other.known }
+        ensures lock { seat.new.lock ≡ seat.old.lock }
+
+        // what both had
         ensures front { IsFront seat.old.known.seen seat.new.known.seen }
         ensures other_front { IsFront other.known.seen seat.new.known.seen }
         ensures apart { (p : ℕ) → Contains seat.old.known.mine p
@@ -232,10 +260,13 @@ impl<V: Counted> TurnLock<V> {
 
     /// The value, once all other seats were joined into the first one, which has seen all events.
     pub fn close(self, seat: Seat<V>) -> V
+        // what it asks
         requires lock { seat.lock ≡ self }
         requires rests { seat.known.stage ≡ Idle }
         requires first { seat.known.number ≡ 0 }
         requires all { (n : ℕ) → n < seat.known.seats → Contains (numbers seat.known) n }
+
+        // what it gives
         ensures value { V.stands result seat.known.seen }
         ensures whole { HasWholeHistory seat.known }
     {

@@ -64,17 +64,13 @@ fn add<R: Wait>(
     seat: &mut Seat<Tape>,
     mark: Mark,
 ) -> Result<(), AllocError>
-    requires lock { seat.old.lock ≡ lock.now }
-    requires rests { seat.old.known.stage ≡ Idle }
-    requires own { mark.by ≡ seat.old.known.number }
+    requires { IsIdle lock.now mark.by seat.old }
     ensures added { OnOk result ((between : List Mark) ×
         (let before = seat.old.known.seen ++ between in
         (seat.new.known.seen ≡ before ++ mark ∷ [])
         × (seat.new.known.mine ≡ seat.old.known.mine ++ length before ∷ []))) }
     ensures err { OnErr result (seat.new.known.mine ≡ seat.old.known.mine) }
-    ensures number { seat.new.known.number ≡ seat.old.known.number }
-    ensures rests { seat.new.known.stage ≡ Idle }
-    ensures lock { seat.new.lock ≡ seat.old.lock }
+    ensures idle { IsIdle lock.now mark.by seat.new }
 {
     let mut tape = lock.take(rt, seat);
     let pushed = tape.marks.push(mark);
@@ -258,13 +254,11 @@ fn actors(
     first: &mut Seat<Tape>,
     count: u64,
 ) -> Option<Vec<Actor>>
-    requires lock { first.old.lock ≡ lock.now }
-    requires rests { first.old.known.stage ≡ Idle }
-    requires first { (first.old.known.number ≡ 0) × (first.old.known.seats ≡ 1) }
+    requires idle { IsIdle lock.now 0 first.old }
+    requires alone { first.old.known.seats ≡ 1 }
     ensures ready { IfSome result (λ actors.
         All (λ actor. IsIdle lock.now actor.by actor.seat) actors.items) }
-    ensures rests { first.new.known.stage ≡ Idle }
-    ensures lock { first.new.lock ≡ first.old.lock }
+    ensures idle { IsIdle lock.now 0 first.new }
 {
     let mut actors = Vec::new(alloc);
     for by in 1..=count {

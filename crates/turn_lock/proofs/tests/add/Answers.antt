@@ -7,4 +7,4 @@ pub give_back-requires-clause-says : goal.give_back-requires-clause-says
 give_back-requires-clause-says g c =
     let t = c.take-tape in
     says _ (is_ok c.push-pushed.result) c.args.mark t.result.marks.items c.push-pushed.new.self.items t.new.seat.known t.ensures.value c.push-pushed.ensures.items
-    (ap Some (c.requires.own ∙ ap (λ v. v.number) (sym t.ensures.known)))
+    (ap Some (sym c.requires.2 ∙ ap (λ v. v.number) (sym t.ensures.known)))
