@@ -1,0 +1,17 @@
+pub mod Functions
+pub mod Lists
+pub mod Contained
+pub mod Fronts
+pub mod Places
+pub mod Stages
+pub mod Views
+pub mod Standing
+pub mod Opening
+pub mod Drawing
+pub mod Looking
+pub mod Counting
+pub mod Passing
+pub mod Splitting
+pub mod Joining
+pub mod Closing
+pub mod TestLemmas

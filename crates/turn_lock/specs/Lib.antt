@@ -1,0 +1,6 @@
+pub mod Lists
+pub mod Seat
+pub mod Account
+pub mod Rule
+pub mod Steps
+pub mod Tests
