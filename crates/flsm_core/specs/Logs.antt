@@ -24,12 +24,14 @@ flat (group ∷ groups) = group ++ flat groups
 -- the logs numbered from n on are these, and the next counts as absent
 abbrev pub HoldsLogs : ℕ → List Held → Image → Type 0
 HoldsLogs n [] image = IsUnfinished (image (Log n))
-HoldsLogs n (log ∷ logs) image = IsLog (Log n) log.header log.groups (image (Log n)) × HoldsLogs (suc n) logs image
+HoldsLogs n (log ∷ logs) image = IsLog (Log n) log.header log.groups (image (Log n))
+    × HoldsLogs (suc n) logs image
 
 -- the logs numbered from n on are these, whatever comes behind them
 abbrev pub BeginsLogs : ℕ → List Held → Image → Type 0
 BeginsLogs n [] image = Unit {0}
-BeginsLogs n (log ∷ logs) image = IsLog (Log n) log.header log.groups (image (Log n)) × BeginsLogs (suc n) logs image
+BeginsLogs n (log ∷ logs) image = IsLog (Log n) log.header log.groups (image (Log n))
+    × BeginsLogs (suc n) logs image
 
 -- the record of a batch that stands behind its first number
 unfoldable pub record_of : ℕ × List Op → List ℕ
@@ -57,14 +59,15 @@ Spells log own = AreRecords log.header.session (flat log.groups) own
 abbrev pub SpellsAll : List Held → Batches → Type 0
 SpellsAll [] batches = batches ≡ []
 SpellsAll (log ∷ logs) batches =
-    (own : Batches) × (rest : Batches) × (batches ≡ own ++ rest) × Spells log own × SpellsAll logs rest
+    (own : Batches) × (rest : Batches) × (batches ≡ own ++ rest) × Spells log own
+    × SpellsAll logs rest
 
 -- the logs have this profile
 abbrev pub AreOf : Profile → List Held → Type 0
 AreOf profile logs = AllByRecursion (λ (log : Held). log.header.profile ≡ profile) logs
 
--- what is read of an image: the logs from 1 on up to the first absent one, all of this profile, which spell
--- these batches, in order
+-- what is read of an image: the logs from 1 on up to the first absent one, all of this profile,
+-- which spell these batches, in order
 pub record Reads (profile : Profile) (image : Image) (logs : List Held) (batches : Batches) : Type 0 where
   pub holds : HoldsLogs 1 logs image
   pub same : AreOf profile logs
@@ -75,7 +78,8 @@ pub record Reads (profile : Profile) (image : Image) (logs : List Held) (batches
 abbrev pub ReadsAs : Profile → Batches → Image → Type 0
 ReadsAs profile batches image = (logs : List Held) × Reads profile image logs batches
 
--- the image stands for these batches in a profile: they are read, and no log above the first absent one has a file
+-- the image stands for these batches in a profile: they are read, and no log above the first absent
+-- one has a file
 pub record Stands (profile : Profile) (batches : Batches) (image : Image) : Type 0 where
   pub logs : List Held
   pub reads : Reads profile image logs batches

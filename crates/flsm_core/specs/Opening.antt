@@ -23,15 +23,18 @@ use Rattle.disk_model.specs.declared.journal.Journal.{Ghosts}
 use Rattle.flsm_core.specs.Logs.{Held, AreOf, AreRecords, BeginsLogs, SpellsAll, Reads, ReadsAs, Stands, greatest_session}
 use Rattle.flsm_core.specs.Place.{Start}
 
--- what an opening rests on: each image that a crash may leave stands for the base, or at least the base is read
+-- what an opening rests on: each image that a crash may leave stands for the base, or at least the
+-- base is read
 abbrev pub OpensOn : Profile → Bool → Batches → Image → (Image → Type 0) → Type 0
-OpensOn profile true base seen may_leave = (image : Image) → may_leave image → Stands profile base image
+OpensOn profile true base seen may_leave = (image : Image) → may_leave image
+    → Stands profile base image
 OpensOn profile false base seen may_leave = ReadsAs profile base seen
 
 -- no batches are read of the image in any profile: some log isn't in its form
 abbrev pub IsUnreadable : Image → Type 0
 IsUnreadable image =
-    (profile : Profile) (logs : List Held) (batches : Batches) → Reads profile image logs batches → ⊥
+    (profile : Profile) (logs : List Held) (batches : Batches) → Reads profile image logs batches
+    → ⊥
 
 -- one of the logs from 1 up to the first absent one has a header that is so
 abbrev pub HasReadLog : Image → (Header → Type 0) → Type 0
@@ -41,11 +44,14 @@ HasReadLog image P =
 -- why an opening was refused, where the journal rose, and where it tells what it held
 abbrev pub OpenCause : Type 0 → Bool → Image → Profile → OpenFault → Type 0
 OpenCause rose tells seen profile opens.Journal = rose
-OpenCause rose tells seen profile (opens.Damaged file at) = (n : ℕ) × (file ≡ names.Log n) × (IsTrue tells → IsUnreadable seen)
+OpenCause rose tells seen profile (opens.Damaged file at) = (n : ℕ) × (file ≡ names.Log n)
+    × (IsTrue tells → IsUnreadable seen)
 OpenCause rose tells seen profile (opens.Profile have asked) =
-    (asked ≡ profile) × (have ≢ profile) × (IsTrue tells → HasReadLog seen (λ header. header.profile ≡ have))
+    (asked ≡ profile) × (have ≢ profile)
+    × (IsTrue tells → HasReadLog seen (λ header. header.profile ≡ have))
 OpenCause rose tells seen profile (opens.Limit kind n) =
-    (kind ≡ kinds.Openings) × (n ≡ 8388607) × (IsTrue tells → HasReadLog seen (λ header. 8388607 ≤ header.session))
+    (kind ≡ kinds.Openings) × (n ≡ 8388607)
+    × (IsTrue tells → HasReadLog seen (λ header. 8388607 ≤ header.session))
 OpenCause rose tells seen profile opens.Memory = Unit {0}
 
 -- ---- the reading of logs, one after another
@@ -58,7 +64,8 @@ pub record IsReplayOf (replay : Replay) (batches : Batches) : Type 0 where
 
 -- no batches that these records spell go on after those
 abbrev pub CantGoOn : ℕ → Batches → List (List ℕ) → Type 0
-CantGoOn session batches bodies = (own : Batches) → AreRecords session bodies own → are_in_order (batches ++ own) ≡ true → ⊥
+CantGoOn session batches bodies = (own : Batches) → AreRecords session bodies own
+    → are_in_order (batches ++ own) ≡ true → ⊥
 
 -- P, where damage is what the fault tells
 abbrev pub OnDamage : ReplayFault → Type 0 → Type 0
@@ -73,7 +80,8 @@ pub record IsFound (profile : Profile) (found : Found) (logs : List Held) (batch
   pub count : found.logs ≡ length logs
   pub same : AreOf profile logs
 
--- only reads and syncs came between: what reads give is the same, and each image since then is one of before
+-- only reads and syncs came between: what reads give is the same, and each image since then is one
+-- of before
 pub record HasWatched (old new : JournalTold) : Type 0 where
   pub seen : new.seen ≡ old.seen
   pub time : Elapses old.moment new.moment old.left_since new.left_since
@@ -81,20 +89,24 @@ pub record HasWatched (old new : JournalTold) : Type 0 where
 
 -- a crash leaves the logs 1 to n as reads give them
 abbrev pub AreKept : {D : Type 0} → Ghosts D → D → ℕ → Type 0
-AreKept d journal n = (m : ℕ) → 1 ≤ m → m ≤ n → Keeps (Log m) (d.seen journal (Log m)) (d.may_leave journal)
+AreKept d journal n = (m : ℕ) → 1 ≤ m → m ≤ n
+    → Keeps (Log m) (d.seen journal (Log m)) (d.may_leave journal)
 
 -- why the next log wasn't taken in, where P says that its records can't go on
 abbrev pub AddCause : Profile → ℕ → Header → Type 0 → OpenFault → Type 0
 AddCause profile number header P opens.Journal = ⊥
 AddCause profile number header P (opens.Damaged file at) = (file ≡ names.Log number) × P
-AddCause profile number header P (opens.Profile have asked) = (have ≡ header.profile) × (asked ≡ profile) × (have ≢ profile)
-AddCause profile number header P (opens.Limit kind n) = (kind ≡ kinds.Openings) × (n ≡ 8388607) × (8388607 ≤ header.session)
+AddCause profile number header P (opens.Profile have asked) = (have ≡ header.profile)
+    × (asked ≡ profile) × (have ≢ profile)
+AddCause profile number header P (opens.Limit kind n) = (kind ≡ kinds.Openings) × (n ≡ 8388607)
+    × (8388607 ≤ header.session)
 AddCause profile number header P opens.Memory = Unit {0}
 
 -- what was read of the logs, once they were synced: a crash leaves them so
 pub record Quiet {D : Type 0} (d : Ghosts D) (journal : D) (start : Start) (logs : List Held) : Type 0 where
   pub reads : Reads start.profile (d.seen journal) logs start.base
-  pub none_above : IsTrue start.honest → (m : ℕ) → suc (length logs) < m → d.seen journal (Log m) ≡ None
+  pub none_above : IsTrue start.honest → (m : ℕ) → suc (length logs) < m
+      → d.seen journal (Log m) ≡ None
   pub only : IsTrue start.honest → (image : Image) → d.may_leave journal image
       → (m : ℕ) → 0 < m → image (Log m) ≡ d.seen journal (Log m)
 

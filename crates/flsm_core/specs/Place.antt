@@ -68,7 +68,10 @@ put_op key value = record { key = key; change = Put value }
 
 -- one more batch waits
 abbrev pub with_batch : ℕ → Place → List Op → Place
-with_batch session p ops = record p { waiting = p.waiting ++ (next_number session (all_of p), ops) ∷ [] }
+with_batch session p ops = record p {
+  waiting = p.waiting
+      ++ (next_number session (all_of p), ops) ∷ [];
+}
 
 -- all batches are settled
 abbrev pub all_settled : Place → Place
@@ -97,20 +100,22 @@ pub record IsWithinLimits (session : ℕ) (p : Place) (ops : List Op) : Type 0 w
 abbrev pub PassesLimit : ℕ → Place → List Op → LimitKind → ℕ → Type 0
 PassesLimit session p ops kind n =
     ((kind ≡ kinds.Operations) × (n ≡ 2 ^ 40 - 1) × IsOutOfNumbers session (all_of p))
-    ⊎ ((kind ≡ kinds.Tail) × (n ≡ 2 ^ 31) × (IsOutOfNumbers session (all_of p) → ⊥) × IsTailFull session p ops)
+    ⊎ ((kind ≡ kinds.Tail) × (n ≡ 2 ^ 31) × (IsOutOfNumbers session (all_of p) → ⊥)
+    × IsTailFull session p ops)
 
 -- where a put leads
 abbrev pub after_put : ℕ → Place → List Op → Result ℕ CommitFault → Place
 after_put session p ops (Ok n) = with_batch session p ops
 after_put session p ops (Err fault) = p
 
--- a put may answer so: its number is the next one; it is refused exactly where the journal has failed before, or
--- where a limit is passed
+-- a put may answer so: its number is the next one; it is refused exactly where the journal has
+-- failed before, or where a limit is passed
 abbrev pub Puts : ℕ → Place → List Op → Result ℕ CommitFault → Type 0
 Puts session p ops (Ok n) =
     (p.stopped ≡ false) × IsWithinLimits session p ops × (n ≡ next_number session (all_of p))
 Puts session p ops (Err commits.Stopped) = p.stopped ≡ true
-Puts session p ops (Err (commits.Limit kind n)) = (p.stopped ≡ false) × PassesLimit session p ops kind n
+Puts session p ops (Err (commits.Limit kind n)) = (p.stopped ≡ false)
+    × PassesLimit session p ops kind n
 Puts session p ops (Err commits.Memory) = p.stopped ≡ false
 
 -- where a sync leads

@@ -39,7 +39,8 @@ pub record Rests {D : Type 0} (d : Ghosts D) (journal : D) (log : LogFile) (sess
   pub holds : IsTrue p.start.honest → HoldsLogs 1 (logs ++ current ∷ []) (d.seen journal)
   pub same : AreOf p.start.profile (logs ++ current ∷ [])
   pub spelled : SpellsAll (logs ++ current ∷ []) p.settled
-  pub none_above : IsTrue p.start.honest → (m : ℕ) → suc (suc (length logs)) < m → d.seen journal (Log m) ≡ None
+  pub none_above : IsTrue p.start.honest → (m : ℕ) → suc (suc (length logs)) < m
+      → d.seen journal (Log m) ≡ None
   pub file : log_file log ≡ Log (suc (length logs))
   pub owned : current.header.session ≡ session
   pub ready : IsReady d.tells d.seen d.may_leave journal log current.header current.groups
@@ -61,14 +62,15 @@ pub record IsAt {D : Type 0} (d : Ghosts D) (state : State D) (p : Place) : Type
   pub waits : p.stopped ≡ false → Waits state.log state.session p
   -- at each moment since the opening began a crash leaves first batches, with the base
   pub since : IsTrue d.tells → IsTrue p.start.honest → (image : Image)
-      → d.left_since state.journal p.start.moment image → Leaves p.start.profile p.start.base (all_of p) image
+      → d.left_since state.journal p.start.moment image
+      → Leaves p.start.profile p.start.base (all_of p) image
   -- now it leaves the settled ones
   pub now : IsTrue d.tells → IsTrue p.start.honest → (image : Image)
       → d.may_leave state.journal image → Leaves p.start.profile p.settled (all_of p) image
   pub rests : IsTrue d.tells → p.stopped ≡ false → Rests d state.journal state.log state.session p
 
--- A journal of a store that stood at this place: a crash now leaves the settled batches and perhaps others, and at no
--- moment since the opening one lost the base.
+-- A journal of a store that stood at this place: a crash now leaves the settled batches and perhaps
+-- others, and at no moment since the opening one lost the base.
 pub record IsLeftBy (p : Place) (told : JournalTold) : Type 0 where
   pub now : IsTrue p.start.honest → (image : Image) → told.may_leave image
       → Leaves p.start.profile p.settled (all_of p) image

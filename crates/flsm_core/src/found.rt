@@ -45,8 +45,9 @@ impl Found {
 
     /// Takes in the next log: its header and its records.
     ///
-    /// `Profile` comes exactly where the header has another profile than the one asked for, then `Limit` exactly where no session
-    /// is left above the header's, then `Damaged` only where the records spell no batches that go on after those before.
+    /// `Profile` comes exactly where the header has another profile than the one asked for, then
+    /// `Limit` exactly where no session is left above the header's, then `Damaged` only where the
+    /// records spell no batches that go on after those before.
     pub fn add_log(
         self,
         alloc: Global,
@@ -55,7 +56,8 @@ impl Found {
         records: &[Record],
     ) -> Result<Found, OpenFault>
         requires { IsHeaderOf (Log (self.logs + 1)) header.now }
-        ensures ok { IfOk result (λ found. (logs : List Held) (batches : Batches) (log : Held) → IsFound profile self logs batches
+        ensures ok { IfOk result (λ found. (logs : List Held) (batches : Batches) (log : Held)
+            → IsFound profile self logs batches
             → log.header ≡ header.now → flat log.groups ≡ bodies_of records.now
             → (own : Batches) × IsFound profile found (logs ++ log ∷ []) (batches ++ own)) }
         ensures count { IfOk result (λ found. found.logs ≡ self.logs + 1) }

@@ -1,8 +1,11 @@
-//! The state of an open store: its logs, the ordered map of all batches in memory, and the numbers that it gives.
+//! The state of an open store: its logs, the ordered map of all batches in memory, and the numbers
+//! that it gives.
 //!
-//! The layer above opens a store (`State::open`), writes and reads it through the trait `Store`, and closes it (`State::close`).
-//! It speaks of a store by its place in its history (`specs/Place`), of what a crash leaves by `specs/Standing` and `specs/Logs`,
-//! and of a refused opening by `specs/Opening`. It may not know in which log a batch lies, nor when the journal is called.
+//! The layer above opens a store (`State::open`), writes and reads it through the trait `Store`,
+//! and closes it (`State::close`). It speaks of a store by its place in its history
+//! (`specs/Place`), of what a crash leaves by `specs/Standing` and `specs/Logs`, and of a refused
+//! opening by `specs/Opening`. It may not know in which log a batch lies, nor when the journal is
+//! called.
 #![tactic(auto)]
 
 mod commit_fault;

@@ -35,10 +35,18 @@ fn next_log<J: Journal>(
     found: Found,
 ) -> Result<(Found, bool), OpenFault>
     ensures count { IfOk result (λ step. step.1 ≡ true → step.0.logs ≡ found.logs + 1) }
-    ensures more { IfOk result (λ step. step.1 ≡ true → (logs : List Held) (batches : Batches) → IsFound profile found logs batches → (IsTrue J.tells → BeginsLogs 1 logs (J.seen journal.old))
-        → (log : Held) × (own : Batches) × IsFound profile step.0 (logs ++ log ∷ []) (batches ++ own) × (IsTrue J.tells → BeginsLogs 1 (logs ++ log ∷ []) (J.seen journal.old))) }
-    ensures done { IfOk result (λ step. step.1 ≡ false → (step.0 ≡ found) × (IsTrue J.tells → IsUnfinished (J.seen journal.old (Log (found.logs + 1))))) }
-    ensures cause { IfErr result (λ fault. (logs : List Held) (batches : Batches) → IsFound profile found logs batches → (IsTrue J.tells → BeginsLogs 1 logs (J.seen journal.old))
+    ensures more { IfOk result (λ step. step.1 ≡ true → (logs : List Held) (batches : Batches)
+        → IsFound profile found logs batches
+        → (IsTrue J.tells → BeginsLogs 1 logs (J.seen journal.old))
+        → (log : Held) × (own : Batches)
+        × IsFound profile step.0 (logs ++ log ∷ []) (batches ++ own)
+        × (IsTrue J.tells → BeginsLogs 1 (logs ++ log ∷ []) (J.seen journal.old))) }
+    ensures done { IfOk result (λ step. step.1 ≡ false
+        → (step.0 ≡ found)
+        × (IsTrue J.tells → IsUnfinished (J.seen journal.old (Log (found.logs + 1))))) }
+    ensures cause { IfErr result (λ fault. (logs : List Held) (batches : Batches)
+        → IsFound profile found logs batches
+        → (IsTrue J.tells → BeginsLogs 1 logs (J.seen journal.old))
         → OpenCause (Rose (J.faults journal.old) (J.faults journal.new)) J.tells (J.seen journal.old) profile fault) }
     ensures watched { HasWatched (told_by J.Journal journal.old) (told_by J.Journal journal.new) }
     ensures kept { OnOk result (Keeps (Log (found.logs + 1)) (J.seen journal.old (Log (found.logs + 1))) (J.may_leave journal.new)) }
@@ -64,7 +72,9 @@ fn read_logs<J: Journal>(
     journal: &mut J,
     profile: Profile,
 ) -> Result<Found, OpenFault>
-    ensures found { IfOk result (λ found. (logs : List Held) × (batches : Batches) × IsFound profile found logs batches × (IsTrue J.tells → HoldsLogs 1 logs (J.seen journal.old))) }
+    ensures found { IfOk result (λ found. (logs : List Held) × (batches : Batches)
+        × IsFound profile found logs batches
+        × (IsTrue J.tells → HoldsLogs 1 logs (J.seen journal.old))) }
     ensures kept { IfOk result (λ found. AreKept J.Journal journal.new (found.logs + 1)) }
     ensures cause { IfErr result (OpenCause (Rose (J.faults journal.old) (J.faults journal.new)) J.tells (J.seen journal.old) profile) }
     ensures watched { HasWatched (told_by J.Journal journal.old) (told_by J.Journal journal.new) }
@@ -99,7 +109,8 @@ impl<J: Journal> State<J> {
         found: Found,
     ) -> Result<State<J>, (OpenFault, J)>
         // what it gives
-        ensures stands { IfOk result (λ state. (start : Start) (logs : List Held) → start.profile ≡ profile
+        ensures stands { IfOk result (λ state. (start : Start) (logs : List Held)
+            → start.profile ≡ profile
             → IsFound profile found logs start.base → HasRead J.Journal journal start logs
             → IsAt J.Journal state (opened start)) }
         ensures session { IfOk result (λ state. state_session state ≡ found.greatest + 1) }
@@ -108,9 +119,12 @@ impl<J: Journal> State<J> {
             J.tells (J.seen journal) profile e.0) }
         // what it leaves
         ensures untouched { IfErr result (λ e. e.0 ≢ opens.Journal → e.1 ≡ journal) }
-        ensures images { IfErr result (λ e. IsTrue J.tells → (start : Start) (logs : List Held) → start.profile ≡ profile
-            → IsTrue start.honest → IsFound profile found logs start.base → HasRead J.Journal journal start logs
-            → (image : Image) → J.left_since e.1 start.moment image → Stands start.profile start.base image) }
+        ensures images { IfErr result (λ e. IsTrue J.tells → (start : Start) (logs : List Held)
+            → start.profile ≡ profile
+            → IsTrue start.honest → IsFound profile found logs start.base
+            → HasRead J.Journal journal start logs
+            → (image : Image) → J.left_since e.1 start.moment image
+            → Stands start.profile start.base image) }
         ensures never_falls { MatchResult result (λ state. J.faults journal ≤ J.faults (state_journal state))
             (λ e. J.faults journal ≤ J.faults e.1) }
     {
@@ -132,13 +146,16 @@ impl<J: Journal> State<J> {
         }
     }
 
-    /// Opens the store whose logs the journal holds: reads the logs from 1 on up to the first absent one, in order, and begins a new
-    /// session with the next log. Each log is synced before it is read, also the absent one.
+    /// Opens the store whose logs the journal holds: reads the logs from 1 on up to the first
+    /// absent one, in order, and begins a new session with the next log. Each log is synced before
+    /// it is read, also the absent one.
     ///
-    /// The session is 1 + the greatest in a header. `Journal` comes only where the journal failed; `Damaged` only where a log isn't in
-    /// its form, or its batches don't go on after those before; `Profile` only where a log that is read has another profile than the
-    /// one asked for; `Limit` only where no session is left above that of a log that is read. A refusal hands the journal back, and every
-    /// crash during it and after it leaves the batches that were there; where the journal didn't fail, it was only read and synced.
+    /// The session is 1 + the greatest in a header. `Journal` comes only where the journal failed;
+    /// `Damaged` only where a log isn't in its form, or its batches don't go on after those before;
+    /// `Profile` only where a log that is read has another profile than the one asked for; `Limit`
+    /// only where no session is left above that of a log that is read. A refusal hands the journal
+    /// back, and every crash during it and after it leaves the batches that were there; where the
+    /// journal didn't fail, it was only read and synced.
     pub fn open(alloc: Global, journal: J, profile: Profile) -> Result<State<J>, (OpenFault, J)>
         // what it gives
         ensures stands { IfOk result (λ state. IsTrue J.tells → (honest : Bool) (base : Batches)
@@ -148,9 +165,11 @@ impl<J: Journal> State<J> {
             × (IsTrue J.tells → ReadsAs profile base (J.seen journal))
             × IsAt J.Journal state (opened (start_at (told_by J.Journal journal) profile false base))) }
         ensures session { IfOk result (λ state. IsTrue J.tells → (logs : List Held)
-            × HoldsLogs 1 logs (J.seen journal) × (state_session state ≡ suc (greatest_session logs))) }
+            × HoldsLogs 1 logs (J.seen journal)
+            × (state_session state ≡ suc (greatest_session logs))) }
         ensures fresh { IfOk result (λ state. IsTrue J.tells → (base : Batches)
-            → ReadsAs profile base (J.seen journal) → last_number base < state_session state * 2 ^ 40) }
+            → ReadsAs profile base (J.seen journal)
+            → last_number base < state_session state * 2 ^ 40) }
         // when it fails
         ensures cause { IfErr result (λ e. OpenCause (Rose (J.faults journal) (J.faults e.1))
             J.tells (J.seen journal) profile e.0) }
@@ -159,7 +178,8 @@ impl<J: Journal> State<J> {
             → HasWatched (told_by J.Journal journal) (told_by J.Journal e.1)) }
         ensures images { IfErr result (λ e. IsTrue J.tells → (base : Batches)
             → OpensOn profile true base (J.seen journal) (J.may_leave journal)
-            → (image : Image) → J.left_since e.1 (J.moment journal) image → Stands profile base image) }
+            → (image : Image) → J.left_since e.1 (J.moment journal) image
+            → Stands profile base image) }
         ensures never_falls { MatchResult result (λ state. J.faults journal ≤ J.faults (state_journal state))
             (λ e. J.faults journal ≤ J.faults e.1) }
     {

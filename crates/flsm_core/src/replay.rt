@@ -21,7 +21,8 @@ pub struct Replay {
 
 /// Applies operations in their order.
 fn apply_all(current: &mut CurrentMap, ops: Vec<Op>) -> Result<(), Memory>
-    ensures { OnOk result ((first : ℕ) → current.new ≡ apply_entries (numbered first ops.items) current.old) }
+    ensures { OnOk result ((first : ℕ)
+        → current.new ≡ apply_entries (numbered first ops.items) current.old) }
 {
     for op in ops {
         current.apply(op)?;
@@ -51,7 +52,8 @@ impl Replay {
         }
     }
 
-    /// Applies the batch of a record of a log of this session. After an error nothing more may be replayed.
+    /// Applies the batch of a record of a log of this session. After an error nothing more may be
+    /// replayed.
     fn replay_record(
         &mut self,
         alloc: Global,
@@ -59,9 +61,11 @@ impl Replay {
         item: &Record,
     ) -> Result<(), ReplayFault>
         ensures ok { OnOk result ((batches : Batches) → IsReplayOf self.old batches
-            → (b : ℕ × List Op) × IsBatchIn session b × (item.now.body.items ≡ record_of b) × IsReplayOf self.new (batches ++ b ∷ [])) }
+            → (b : ℕ × List Op) × IsBatchIn session b × (item.now.body.items ≡ record_of b)
+            × IsReplayOf self.new (batches ++ b ∷ [])) }
         ensures here { OnOk result (session_of self.new.last ≡ session) }
-        ensures damaged { IfErr result (λ fault. OnDamage fault ((batches : Batches) → IsReplayOf self.old batches → CantGoOn session batches (item.now.body.items ∷ []))) }
+        ensures damaged { IfErr result (λ fault. OnDamage fault ((batches : Batches)
+            → IsReplayOf self.old batches → CantGoOn session batches (item.now.body.items ∷ []))) }
     {
         one_batch();
         let (first, batch) = match read_batch(alloc, &item.body) {
@@ -83,7 +87,8 @@ impl Replay {
         Ok(())
     }
 
-    /// Applies the records of a log of this session, in their order. After an error nothing more may be replayed.
+    /// Applies the records of a log of this session, in their order. After an error nothing more
+    /// may be replayed.
     pub fn replay_records(
         &mut self,
         alloc: Global,
@@ -91,9 +96,12 @@ impl Replay {
         items: &[Record],
     ) -> Result<(), ReplayFault>
         ensures ok { OnOk result ((batches : Batches) → IsReplayOf self.old batches
-            → (own : Batches) × AreRecords session (bodies_of items.now) own × IsReplayOf self.new (batches ++ own)) }
-        ensures here { OnOk result ((self.new.last ≡ self.old.last) ⊎ (session_of self.new.last ≡ session)) }
-        ensures damaged { IfErr result (λ fault. OnDamage fault ((batches : Batches) → IsReplayOf self.old batches → CantGoOn session batches (bodies_of items.now))) }
+            → (own : Batches) × AreRecords session (bodies_of items.now) own
+            × IsReplayOf self.new (batches ++ own)) }
+        ensures here { OnOk result ((self.new.last ≡ self.old.last)
+            ⊎ (session_of self.new.last ≡ session)) }
+        ensures damaged { IfErr result (λ fault. OnDamage fault ((batches : Batches)
+            → IsReplayOf self.old batches → CantGoOn session batches (bodies_of items.now))) }
     {
         one_batch();
         for item in items {

@@ -70,7 +70,8 @@ fn batch_of_put(alloc: Global, key: Key, value: Value) -> Result<Batch, Memory>
 /// Applies a batch of one operation. After want of memory the map is as before.
 fn apply_one(current: &mut CurrentMap, batch: Batch) -> Result<(), Memory>
     requires { length batch ≡ 1 }
-    ensures ok { OnOk result ((op : Op) → batch ≡ op ∷ [] → current.new ≡ apply_change op.key op.change current.old) }
+    ensures ok { OnOk result ((op : Op) → batch ≡ op ∷ []
+        → current.new ≡ apply_change op.key op.change current.old) }
     ensures err { OnErr result (current.new ≡ current.old) }
 {
     match batch.into_ops().pop() {
@@ -88,7 +89,8 @@ impl<J: Journal> State<J> {
 
     /// Gives the journal up. What waits is lost.
     pub fn close(self) -> J
-        ensures left { IsTrue J.tells → (p : Place) → IsAt J.Journal self p → IsLeftBy p (told_by J.Journal result) }
+        ensures left { IsTrue J.tells → (p : Place) → IsAt J.Journal self p
+            → IsLeftBy p (told_by J.Journal result) }
         ensures journal { result ≡ state_journal self }
     {
         let State {

@@ -12,7 +12,8 @@ use peb_base::{Key, Number, Value};
 
 /// An open store: an ordered map whose writes are numbered, and stable once they are synced.
 ///
-/// What it stands for is a place in its history (`stands`): each call leads from there to the place that its answer names.
+/// What it stands for is a place in its history (`stands`): each call leads from there to the place
+/// that its answer names.
 pub trait Store {
     /// The places that the store stands at.
     ghost stands: { Self → Place → Type 0 };
@@ -25,18 +26,23 @@ pub trait Store {
 
     /// Commits a batch that puts one key, and gives its number. It makes no call on the journal.
     ///
-    /// `Stopped` comes exactly where the journal has failed before, else `Limit` exactly where the session's numbers or the
-    /// bytes that wait would pass their limit, or `Memory`. A refusal changes nothing.
+    /// `Stopped` comes exactly where the journal has failed before, else `Limit` exactly where the
+    /// session's numbers or the bytes that wait would pass their limit, or `Memory`. A refusal
+    /// changes nothing.
     fn put(&mut self, key: Key, value: Value) -> Result<Number, CommitFault>
-        ensures stands { (p : Place) → stands self.old p → stands self.new (after_put (session self.old) p (put_op key value ∷ []) result) }
-        ensures answers { (p : Place) → stands self.old p → Puts (session self.old) p (put_op key value ∷ []) result }
+        ensures stands { (p : Place) → stands self.old p
+            → stands self.new (after_put (session self.old) p (put_op key value ∷ []) result) }
+        ensures answers { (p : Place) → stands self.old p
+            → Puts (session self.old) p (put_op key value ∷ []) result }
         ensures session { session self.new ≡ session self.old }
         ensures faults { faults self.new ≡ faults self.old };
 
-    /// Makes all committed batches stable: every crash leaves them. It gives the last number and takes no memory.
+    /// Makes all committed batches stable: every crash leaves them. It gives the last number and
+    /// takes no memory.
     ///
-    /// `Stopped` comes exactly where the journal has failed before. `Journal` comes only where it failed in this call; then the
-    /// batches that waited may be lost, and every later commit or sync is refused.
+    /// `Stopped` comes exactly where the journal has failed before. `Journal` comes only where it
+    /// failed in this call; then the batches that waited may be lost, and every later commit or
+    /// sync is refused.
     fn sync(&mut self) -> Result<Number, SyncFault>
         requires { (p : Place) × stands self.old p }
         ensures stands { (p : Place) → stands self.old p → stands self.new (after_sync p result) }
@@ -51,6 +57,7 @@ pub trait Store {
 
     /// The value of a key after all batches.
     fn get(&self, key: &[u8]) -> Option<&[u8]>
-        ensures value { (p : Place) → stands self.now p → option_copied result ≡ value_at (all_of p) (last_number (all_of p)) key.now }
+        ensures value { (p : Place) → stands self.now p
+            → option_copied result ≡ value_at (all_of p) (last_number (all_of p)) key.now }
         ensures short { IfSome result (λ value. length value.now ≤ 32768) };
 }

@@ -37,7 +37,8 @@ abbrev pub ScriptCause : Option (List ℕ) → Cause → Type 0
 ScriptCause text (causes.Source i) = i ≡ 1
 ScriptCause text (causes.Script i line why) =
     (i ≡ 1) × IsWithin text 16777216 × IsRefusedAt text line why
-ScriptCause text (causes.Limit kind n) = (kind ≡ kinds.Script) × (n ≡ 16777216) × HasMore text 16777216
+ScriptCause text (causes.Limit kind n) = (kind ≡ kinds.Script) × (n ≡ 16777216)
+    × HasMore text 16777216
 ScriptCause text causes.Memory = Unit {0}
 ScriptCause text causes.Journal = ⊥
 ScriptCause text (causes.Damaged file at) = ⊥
@@ -72,7 +73,8 @@ pub record IsOpeningCause (old new : DevicesTold) (cause : Cause) : Type 0 where
 
 -- no command is run for this cause: the script gives none, or no store is opened
 abbrev pub RefusalCause : Option (List ℕ) → DevicesTold → DevicesTold → Cause → Type 0
-RefusalCause text old new cause = ScriptCause text cause ⊎ (IsScript text × IsOpeningCause old new cause)
+RefusalCause text old new cause = ScriptCause text cause
+    ⊎ (IsScript text × IsOpeningCause old new cause)
 
 -- the cause is told before anything is opened
 abbrev pub IsBeforeOpening : Cause → Type 0
@@ -93,15 +95,16 @@ IsBeforeOpening causes.Memory = ⊥
 abbrev pub sink_cause : Bool → Option Cause
 sink_cause failed = if failed then Some (causes.Sink 1) else None
 
--- how a run ends: with the first fault that a line told, else that of the client's sink, of the closing sync, of the
--- report
+-- how a run ends: with the first fault that a line told, else that of the client's sink, of the
+-- closing sync, of the report
 abbrev pub end_of : Option Cause → Bool → Option Cause → Option Cause → Cause
 end_of fault failed closing report =
     unwrap_or (option_or fault (option_or (sink_cause failed) (option_or closing report))) causes.Done
 
 -- a write tells these limits
 abbrev pub IsWriteLimit : LimitKind → ℕ → Type 0
-IsWriteLimit kind n = ((kind ≡ kinds.Operations) × (n ≡ 2 ^ 40 - 1)) ⊎ ((kind ≡ kinds.Tail) × (n ≡ 2 ^ 31))
+IsWriteLimit kind n = ((kind ≡ kinds.Operations) × (n ≡ 2 ^ 40 - 1))
+    ⊎ ((kind ≡ kinds.Tail) × (n ≡ 2 ^ 31))
 
 -- a line, or the closing sync, tells no other faults, and one of the journal only where this holds
 abbrev pub LineCause : Type 0 → Option Cause → Type 0
@@ -146,7 +149,8 @@ PlayCause text old new (causes.Script i line why) =
     (i ≡ 1) × IsWithin text 16777216 × IsRefusedAt text line why
 PlayCause text old new (causes.Limit kind n) =
     ((kind ≡ kinds.Script) × (n ≡ 16777216) × HasMore text 16777216)
-    ⊎ (IsScript text × (IsWriteLimit kind n ⊎ OpeningCause old.devices new.devices (opens.Limit kind n)))
+    ⊎ (IsScript text
+    × (IsWriteLimit kind n ⊎ OpeningCause old.devices new.devices (opens.Limit kind n)))
 PlayCause text old new causes.Journal = IsScript text × JournalRose old.devices new.devices
 PlayCause text old new (causes.Damaged file at) =
     IsScript text × OpeningCause old.devices new.devices (opens.Damaged file at)

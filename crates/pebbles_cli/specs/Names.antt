@@ -11,7 +11,8 @@ replies_name file = file ++ codes ".out"
 abbrev pub replies_label : List ℕ → Label
 replies_label name = record { client = 1; name = name }
 
--- no directory but this one was chosen, and no journal but its own was handed out, each at most once
+-- no directory but this one was chosen, and no journal but its own was handed out, each at most
+-- once
 abbrev pub OpensAtMost : List ℕ → Directories → Directories → Type 0
 OpensAtMost dir old new =
     (new ≡ old) ⊎ ((new ≡ after_choice dir old) ⊎ (new ≡ after_opening (after_choice dir old)))

@@ -41,8 +41,8 @@ AreNumbered low all (command ∷ commands) text failed =
     × (((rest : List ℕ) × ((text ≡ first ++ rest) × AreNumbered next all commands rest failed))
     ⊎ ((k : ℕ) × ((text ≡ take k first) × (failed ≡ true)))))
 
--- along a run no number falls, a write's is above all before it, and each is that of some first batches of the run,
--- among them all that were there before
+-- along a run no number falls, a write's is above all before it, and each is that of some first
+-- batches of the run, among them all that were there before
 abbrev pub RunsNumber : Type 0
 RunsNumber =
     (session : ℕ) (old : Place) (commands : List Command) (text : List ℕ) (cause : Option Cause) (failed : Bool) (new : Place)

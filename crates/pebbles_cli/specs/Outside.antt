@@ -7,8 +7,8 @@ use Rattle.disk_model.specs.declared.devices.Devices as devices
 use Rattle.disk_model.specs.declared.journal.Journal as journal
 use Rattle.disk_model.specs.declared.sinks.Sinks as sinks
 
--- What devices tell: whether their journals tell what files hold, the journal, the tables, which directory was used,
--- and how often choosing one or handing out its journal has failed.
+-- What devices tell: whether their journals tell what files hold, the journal, the tables, which
+-- directory was used, and how often choosing one or handing out its journal has failed.
 pub record DevicesTold : Type 1 where
   pub tells : Bool
   pub journal : JournalTold
@@ -16,8 +16,8 @@ pub record DevicesTold : Type 1 where
   pub directories : Directories
   pub faults : ℕ
 
--- What sinks tell: for whom they were opened, how often that or the report has failed, the replies to client 1 and how
--- often their sink has failed, and the report.
+-- What sinks tell: for whom they were opened, how often that or the report has failed, the replies
+-- to client 1 and how often their sink has failed, and the report.
 pub record SinksTold : Type 0 where
   pub names : SinkNames
   pub faults : ℕ
@@ -31,7 +31,8 @@ pub record Outside : Type 1 where
   pub sinks : SinksTold
 
 -- what these devices tell
-abbrev pub devices_told : {D J F P M : Type 0} → journal.Ghosts J → devices.Ghosts D J F P M → D → DevicesTold
+abbrev pub devices_told : {D J F P M : Type 0} → journal.Ghosts J → devices.Ghosts D J F P M → D
+    → DevicesTold
 devices_told j d devices =
     record {
       tells = j.tells;
@@ -53,5 +54,6 @@ sinks_told k sinks =
     }
 
 -- what these devices and sinks tell
-abbrev pub outside : {D J F P M K O : Type 0} → journal.Ghosts J → devices.Ghosts D J F P M → sinks.Ghosts K O → D → K → Outside
+abbrev pub outside : {D J F P M K O : Type 0} → journal.Ghosts J → devices.Ghosts D J F P M
+    → sinks.Ghosts K O → D → K → Outside
 outside j d k devices sinks = record { devices = devices_told j d devices; sinks = sinks_told k sinks }

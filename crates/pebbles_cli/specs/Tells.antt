@@ -73,19 +73,27 @@ TellsOne session old (commands.Get key) text cause new = TellsGet old key text c
 abbrev pub Steps : Type 0 → Type 1
 Steps P = P → Command → List ℕ → Option Cause → P → Type 0
 
--- the lines of the commands in order, and the first fault that one tells; where the sink failed, the lines of some first commands
--- and a front of the next one's, and the commands after that one weren't run
-unfoldable pub Tells : {P : Type 0} → Steps P → P → List Command → List ℕ → Option Cause → Bool → P → Type 0
-Tells one old [] text cause failed new = (text ≡ []) × (cause ≡ None) × (failed ≡ false) × (new ≡ old)
+-- the lines of the commands in order, and the first fault that one tells; where the sink failed,
+-- the lines of some first commands and a front of the next one's, and the commands after that one
+-- weren't run
+unfoldable pub Tells : {P : Type 0} → Steps P → P → List Command → List ℕ → Option Cause → Bool → P
+    → Type 0
+Tells one old [] text cause failed new = (text ≡ []) × (cause ≡ None) × (failed ≡ false)
+    × (new ≡ old)
 Tells {P} one old (command ∷ commands) text cause failed new =
     (first : List ℕ) × (told : Option Cause) × (mid : P) × (one old command first told mid
-    × (((rest : List ℕ) × (later : Option Cause) × ((text ≡ first ++ rest) × (cause ≡ option_or told later) × Tells one mid commands rest later failed new))
+    × (((rest : List ℕ) × (later : Option Cause)
+    × ((text ≡ first ++ rest) × (cause ≡ option_or told later)
+    × Tells one mid commands rest later failed new))
     ⊎ ((k : ℕ) × ((text ≡ take k first) × (cause ≡ told) × (failed ≡ true) × (new ≡ mid)))))
 
 -- what was run so far, whatever those commands that are left tell
-abbrev pub Since : {P : Type 0} → Steps P → P → List Command → List ℕ → Option Cause → P → List Command → Type 0
+abbrev pub Since : {P : Type 0} → Steps P → P → List Command → List ℕ → Option Cause → P
+    → List Command → Type 0
 Since {P} one old all sofar cause now left =
-    (rest : List ℕ) (later : Option Cause) (failed : Bool) (new : P) → Tells one now left rest later failed new → Tells one old all (sofar ++ rest) (option_or cause later) failed new
+    (rest : List ℕ) (later : Option Cause) (failed : Bool) (new : P)
+    → Tells one now left rest later failed new
+    → Tells one old all (sofar ++ rest) (option_or cause later) failed new
 
 -- a sink took these bytes more, where it tells them
 abbrev pub TookMore : Option (List ℕ) → List ℕ → Option (List ℕ) → Type 0

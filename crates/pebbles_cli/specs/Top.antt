@@ -25,7 +25,8 @@ use Rattle.pebbles_cli.specs.Read.{IsWithin}
 use Rattle.pebbles_cli.specs.Shows.{ShowsAll}
 use Rattle.pebbles_cli.specs.Tells.{Tells, TellsOne, TookMore, sync_cause}
 
--- what the words of a run name, the directory and the script, and the script's text where it is told
+-- what the words of a run name, the directory and the script, and the script's text where it is
+-- told
 pub record Asked : Type 0 where
   pub dir : List ℕ
   pub file : List ℕ
@@ -40,8 +41,8 @@ pub record Run : Type 0 where
   pub name : List ℕ
   pub commands : List Command
 
--- how commands went: the lines of the replies, the first fault among these and whether the sink failed, and where the
--- commands led
+-- how commands went: the lines of the replies, the first fault among these and whether the sink
+-- failed, and where the commands led
 pub record Went : Type 0 where
   pub text : List ℕ
   pub served : Served
@@ -78,7 +79,8 @@ IsServed run old new went = IsAnswered run old new went ⊎ IsUnheard run old ne
 
 -- ---- the closing
 
--- how a store was closed: what the closing sync answered and where it led, and why the report isn't whole
+-- how a store was closed: what the closing sync answered and where it led, and why the report isn't
+-- whole
 pub record Closed : Type 0 where
   pub answer : Result ℕ SyncFault
   pub place : Place
@@ -98,7 +100,8 @@ pub record IsClosed (answered : Place) (old new : Outside) (closed : Closed) : T
   -- the closing sync
   pub closes : Syncs answered closed.answer
   pub leads : closed.place ≡ after_sync answered closed.answer
-  pub halted : closed.place.stopped ≡ true → Rose closed.place.start.faults new.devices.journal.faults
+  pub halted : closed.place.stopped ≡ true
+      → Rose closed.place.start.faults new.devices.journal.faults
   -- the report
   pub reports : Reports (last_number (all_of closed.place)) closed.report old.sinks.report new.sinks.report
   pub report_cause : ReportCause (Rose old.sinks.faults new.sinks.faults) closed.report
@@ -131,7 +134,8 @@ pub record Ran (start : Start) (asked : Asked) (old new : Outside) (cause : Caus
   pub short : IsWithin asked.text 16777216
   pub says : Says asked.text commands
   pub next : IsTrue old.devices.tells → IsNext start.base old.devices.journal.seen session
-  pub directory : new.devices.directories ≡ after_opening (after_choice asked.dir old.devices.directories)
+  pub directory : new.devices.directories
+      ≡ after_opening (after_choice asked.dir old.devices.directories)
   -- what was replied
   pub served : IsServed
       (record { session = session; start = opened start; name = replies_name asked.file; commands = commands })
@@ -139,7 +143,8 @@ pub record Ran (start : Start) (asked : Asked) (old new : Outside) (cause : Caus
   -- how it ended
   pub starts : closed.place.start ≡ start
   pub closing : IsClosed went.place old new closed
-  pub ends : cause ≡ end_of went.served.fault went.served.sink_failed (sync_cause closed.answer) closed.report
+  pub ends : cause
+      ≡ end_of went.served.fault went.served.sink_failed (sync_cause closed.answer) closed.report
   pub done : cause ≡ causes.Done → IsDone went closed
   -- what stays
   pub tables : TablesStay old.devices.tables new.devices.tables
@@ -154,7 +159,8 @@ pub record NotOpened (asked : Asked) (old new : Outside) (cause : Cause) : Type 
   pub untouched : cause ≢ causes.Journal → HasWatched old.devices.journal new.devices.journal
   -- and no crash since lost what was there
   pub ever : IsTrue old.devices.tells → (base : Batches)
-      → OpensOn Small true base old.devices.journal.seen old.devices.journal.may_leave → (image : Image)
+      → OpensOn Small true base old.devices.journal.seen old.devices.journal.may_leave
+      → (image : Image)
       → new.devices.journal.left_since old.devices.journal.moment image → Stands Small base image
   pub tables : TablesStay old.devices.tables new.devices.tables
 
@@ -162,8 +168,8 @@ pub record NotOpened (asked : Asked) (old new : Outside) (cause : Cause) : Type 
 abbrev pub Plays : Start → Asked → Outside → Outside → Cause → Type 0
 Plays start asked old new cause = NotOpened asked old new cause ⊎ Ran start asked old new cause
 
--- the script was run over a store that was opened over some base, which was read where reads are told, or no store was
--- opened
+-- the script was run over a store that was opened over some base, which was read where reads are
+-- told, or no store was opened
 abbrev pub PlaysSomehow : Asked → Outside → Outside → Cause → Type 0
 PlaysSomehow asked old new cause =
     NotOpened asked old new cause

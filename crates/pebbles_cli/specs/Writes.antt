@@ -21,15 +21,17 @@ after_write session p ops sync (Err writes.Stopped) = p
 after_write session p ops sync (Err (writes.Limit kind n)) = p
 after_write session p ops sync (Err writes.Memory) = p
 
--- a write may answer so: its number is the next one; it is refused exactly where the journal has failed before, or
--- where a limit is passed
+-- a write may answer so: its number is the next one; it is refused exactly where the journal has
+-- failed before, or where a limit is passed
 abbrev pub Writes : ℕ → Place → List Op → Bool → Result ℕ WriteFault → Type 0
 Writes session p ops sync (Ok n) =
     (p.stopped ≡ false) × IsWithinLimits session p ops × (n ≡ next_number session (all_of p))
 Writes session p ops sync (Err (writes.Unsynced n)) =
-    (p.stopped ≡ false) × (sync ≡ true) × IsWithinLimits session p ops × (n ≡ next_number session (all_of p))
+    (p.stopped ≡ false) × (sync ≡ true) × IsWithinLimits session p ops
+    × (n ≡ next_number session (all_of p))
 Writes session p ops sync (Err writes.Stopped) = p.stopped ≡ true
-Writes session p ops sync (Err (writes.Limit kind n)) = (p.stopped ≡ false) × PassesLimit session p ops kind n
+Writes session p ops sync (Err (writes.Limit kind n)) = (p.stopped ≡ false)
+    × PassesLimit session p ops kind n
 Writes session p ops sync (Err writes.Memory) = p.stopped ≡ false
 
 -- where a sync leads that comes right after a write

@@ -30,7 +30,8 @@ fn sync_cause(answer: Result<Number, SyncFault>) -> Option<Cause>
 pub fn settle<S: Store>(store: &mut S) -> Option<Cause>
     requires { (p : Place) × S.stands store.old p }
     ensures stands { (p : Place) → S.stands store.old p → (closing : Result ℕ SyncFault)
-        × Syncs p closing × (result ≡ sync_cause closing) × S.stands store.new (after_sync p closing) }
+        × Syncs p closing × (result ≡ sync_cause closing)
+        × S.stands store.new (after_sync p closing) }
 {
     let answer = store.sync();
     sync_cause(answer)

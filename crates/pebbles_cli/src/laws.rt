@@ -3,14 +3,16 @@
 ghost use Rattle.pebbles_cli.specs.Numbers.{RunsNumber};
 ghost use Rattle.pebbles_cli.specs.Shows.{RunsShow, StoppedStays};
 
-/// Each value that a run reads is that of its key in the map of all batches of the run, at the number of the reply; the
-/// batch of each number that it prints is among them, and where it is printed `synced`, every crash leaves it.
+/// Each value that a run reads is that of its key in the map of all batches of the run, at the
+/// number of the reply; the batch of each number that it prints is among them, and where it is
+/// printed `synced`, every crash leaves it.
 pub fn law_reads()
     ensures { RunsShow }
 {}
 
-/// Along a run no number falls, and a write's is above all before it. Each is the last number after some first batches of
-/// the run, which begin with those that were opened: no reply is older than what the client saw.
+/// Along a run no number falls, and a write's is above all before it. Each is the last number after
+/// some first batches of the run, which begin with those that were opened: no reply is older than
+/// what the client saw.
 pub fn law_numbers()
     ensures { RunsNumber }
 {}

@@ -33,8 +33,9 @@ fn opening_cause(fault: OpenFault) -> Cause
     }
 }
 
-/// Opens the store of a directory in the profile `small`. Where that fails the devices have their journal back, and each
-/// crash since leaves what was there; but for a fault of the journal no file was changed.
+/// Opens the store of a directory in the profile `small`. Where that fails the devices have their
+/// journal back, and each crash since leaves what was there; but for a fault of the journal no file
+/// was changed.
 pub fn open_store<D: Devices>(
     alloc: Global,
     dir: &str,
@@ -48,8 +49,10 @@ pub fn open_store<D: Devices>(
     ensures somewhere { IfOk result (λ state. (base : Batches)
         × ((IsTrue D.J.tells → ReadsAs Small base (D.journal_told devices.old).seen)
         × IsAt D.J.Journal state (opened (start_at (D.journal_told devices.old) Small false base))
-        × (IsTrue D.J.tells → IsNext base (D.journal_told devices.old).seen (state_session state)))) }
-    ensures opened { OnOk result (D.directories devices.new ≡ after_opening (after_choice dir.now (D.directories devices.old))) }
+        × (IsTrue D.J.tells
+        → IsNext base (D.journal_told devices.old).seen (state_session state)))) }
+    ensures opened { OnOk result (D.directories devices.new
+        ≡ after_opening (after_choice dir.now (D.directories devices.old))) }
     // when it fails
     ensures cause { IfErr result (λ cause. IsOpeningCause (devices_told D.J.Journal D.Devices devices.old)
         (devices_told D.J.Journal D.Devices devices.new) cause) }
@@ -59,7 +62,8 @@ pub fn open_store<D: Devices>(
         → HasWatched (D.journal_told devices.old) (D.journal_told devices.new)) }
     ensures ever { IfErr result (λ cause. IsTrue D.J.tells → (base : Batches)
         → OpensOn Small true base (D.journal_told devices.old).seen (D.journal_told devices.old).may_leave
-        → (image : Image) → (D.journal_told devices.new).left_since (D.journal_told devices.old).moment image
+        → (image : Image)
+        → (D.journal_told devices.new).left_since (D.journal_told devices.old).moment image
         → Stands Small base image) }
     ensures tables { TablesStay (D.tables_told devices.old) (D.tables_told devices.new) }
 {
@@ -82,7 +86,8 @@ pub fn open_store<D: Devices>(
 /// Hands the journal of a store back to the devices.
 pub fn close_store<D: Devices>(devices: &mut D, state: State<D::J>)
     ensures told { TellsTheSame (told_by D.J.Journal (state_journal state)) (D.journal_told devices.new) }
-    ensures left { IsTrue D.J.tells → (p : Place) → IsAt D.J.Journal state p → IsLeftBy p (D.journal_told devices.new) }
+    ensures left { IsTrue D.J.tells → (p : Place) → IsAt D.J.Journal state p
+        → IsLeftBy p (D.journal_told devices.new) }
     ensures directories { D.directories devices.new ≡ D.directories devices.old }
     ensures faults { D.faults devices.new ≡ D.faults devices.old }
     ensures tables { TablesStay (D.tables_told devices.old) (D.tables_told devices.new) }

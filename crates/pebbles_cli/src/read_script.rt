@@ -12,7 +12,8 @@ pub const LONGEST_SCRIPT: usize = 16_777_216;
 
 /// Reads all bytes of a script, at least one a turn.
 ///
-/// `TooLong` comes exactly where the script has more than 16,777,216 bytes; it stops once they were read. `Source` comes only where the source's count of faults rose.
+/// `TooLong` comes exactly where the script has more than 16,777,216 bytes; it stops once they were
+/// read. `Source` comes only where the source's count of faults rose.
 pub fn read_script<S: Scripts>(
     alloc: Global,
     scripts: &mut S,
@@ -23,7 +24,8 @@ pub fn read_script<S: Scripts>(
     ensures long { IsErrOf result faults.TooLong → HasMore (S.text scripts.old name.now) 16777216 }
     ensures same { (other : List ℕ) → S.text scripts.new other ≡ S.text scripts.old other }
     ensures later { S.faults scripts.old ≤ S.faults scripts.new }
-    ensures cause { IsErrOf result faults.Source → Rose (S.faults scripts.old) (S.faults scripts.new) }
+    ensures cause { IsErrOf result faults.Source
+        → Rose (S.faults scripts.old) (S.faults scripts.new) }
 {
     let mut bytes = Vec::new(alloc);
     let mut piece = [0; 4096];

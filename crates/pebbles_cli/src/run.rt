@@ -44,7 +44,8 @@ fn end_of(served: Served, closing: Option<Cause>, report: Option<Cause>) -> Caus
         .unwrap_or(Cause::Done)
 }
 
-/// Settles a store, hands its journal back, writes the report, and gives the cause that the run ends with.
+/// Settles a store, hands its journal back, writes the report, and gives the cause that the run
+/// ends with.
 fn close_run<D: Devices, K: Sinks>(
     alloc: Global,
     devices: &mut D,
@@ -84,7 +85,8 @@ pub fn run_commands<D: Devices, K: Sinks>(
     sinks: &mut K,
     commands: Vec<Command>,
 ) -> Cause
-    ensures ran { IsTrue D.J.tells → (text : Option (List ℕ)) → IsWithin text 16777216 → Says text commands.items
+    ensures ran { IsTrue D.J.tells → (text : Option (List ℕ)) → IsWithin text 16777216
+        → Says text commands.items
         → (honest : Bool) (base : Batches)
         → OpensOn Small honest base (D.journal_told devices.old).seen (D.journal_told devices.old).may_leave
         → Plays (start_at (D.journal_told devices.old) Small honest base)

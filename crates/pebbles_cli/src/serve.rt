@@ -90,7 +90,8 @@ fn answer<S: Store>(store: &mut S, command: Command, out: &mut ReplyBuf) -> Opti
     }
 }
 
-/// Runs commands in their order, until all were run or the sink failed. Each reply is handed to the sink before the next command runs.
+/// Runs commands in their order, until all were run or the sink failed. Each reply is handed to the
+/// sink before the next command runs.
 pub fn serve<S: Store, K: Sink>(
     store: &mut S,
     sink: &mut K,
@@ -98,7 +99,8 @@ pub fn serve<S: Store, K: Sink>(
     out: &mut ReplyBuf,
 ) -> Served
     requires { (p : Place) × S.stands store.old p }
-    ensures told { (old : Place) → S.stands store.old old → (text : List ℕ) × (new : Place) × (S.stands store.new new
+    ensures told { (old : Place) → S.stands store.old old
+        → (text : List ℕ) × (new : Place) × (S.stands store.new new
         × ((TookMore (K.taken sink.old) text (K.taken sink.new))
         × Tells (TellsOne (S.session store.old)) old commands.items text result.fault result.sink_failed new)) }
     ensures session { S.session store.new ≡ S.session store.old }

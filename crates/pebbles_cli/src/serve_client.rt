@@ -9,8 +9,8 @@ use disk_model::Sinks;
 use flsm_core::Store;
 use script::{Command, ReplyBuf};
 
-/// Opens the sink of client 1 under a name, runs the commands, and hands the sink back. Where it can't be opened, no
-/// command is run.
+/// Opens the sink of client 1 under a name, runs the commands, and hands the sink back. Where it
+/// can't be opened, no command is run.
 pub fn serve_client<S: Store, K: Sinks>(
     store: &mut S,
     sinks: &mut K,
@@ -20,7 +20,8 @@ pub fn serve_client<S: Store, K: Sinks>(
 ) -> Served
     requires { (p : Place) × S.stands store.old p }
     // what it leaves
-    ensures served { (start : Place) → S.stands store.old start → (went : Went) × (S.stands store.new went.place
+    ensures served { (start : Place) → S.stands store.old start
+        → (went : Went) × (S.stands store.new went.place
         × (went.served ≡ result)
         × IsServed (record { session = S.session store.old; start = start; name = name.now; commands = commands.items })
         (sinks_told K.Sinks sinks.old) (sinks_told K.Sinks sinks.new) went) }

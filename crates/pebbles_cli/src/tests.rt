@@ -198,8 +198,8 @@ fn an_empty_script_begins_a_session(rt: HostRuntime) -> Result<(), Fail> {
 fn each_log_that_is_refused_has_its_cause(rt: HostRuntime) -> Result<(), Fail> {
     let alloc = rt.alloc();
     let damaged = |at| (6, Cause::Damaged(FileName::Log(1), at));
-    // A byte of the header's letters, of the profile, of a session of which no later one is left, of a batch of
-    // another session, and of an operation of no kind.
+    // A byte of the header's letters, of the profile, of a session of which no later one is left,
+    // of a batch of another session, and of an operation of no kind.
     let rows = [
         (1, b'f', damaged(0)),
         (7, 0, (11, Cause::Profile(Profile::Normal, Profile::Small))),
@@ -377,7 +377,8 @@ fn a_source_that_fails_opens_nothing(rt: HostRuntime) -> Result<(), Fail> {
     Ok(())
 }
 
-/// What is told where sinks fail: by their calls, by the room of the replies, by that of the report.
+/// What is told where sinks fail: by their calls, by the room of the replies, by that of the
+/// report.
 fn run_into(
     alloc: Global,
     calls: FailPlan,

@@ -40,7 +40,8 @@ fn play<D: Devices, S: Scripts, K: Sinks>(
         (outside D.J.Journal D.Devices K.Sinks devices.old sinks.old)
         (outside D.J.Journal D.Devices K.Sinks devices.new sinks.new) result }
     // when it fails
-    ensures source { (i : ℕ) → result ≡ causes.Source i → Rose (S.faults scripts.old) (S.faults scripts.new) }
+    ensures source { (i : ℕ) → result ≡ causes.Source i
+        → Rose (S.faults scripts.old) (S.faults scripts.new) }
     // what stays
     ensures untouched { IsBeforeOpening result → devices.new ≡ devices.old }
     ensures silent { IsBeforeOpening result → sinks.new ≡ sinks.old }
@@ -54,15 +55,18 @@ fn play<D: Devices, S: Scripts, K: Sinks>(
 
 /// Does all that the program does, on words that need no thread.
 ///
-/// The words are `run --profile small --workers 0 DIR FILE`; all others are `Usage`. The script FILE is read and parsed, the
-/// store of the directory DIR is opened on the devices, the commands run one after another, each reply is handed to the
-/// sink that is opened for client 1 under the name FILE.out before the next command runs, the store is synced and closed,
-/// and the report goes to the report's sink. Once the store was opened, it is closed and the report is written whatever
-/// happened. No other directory is chosen, no other sink is opened, and no table is touched. The cause is the first fault:
-/// of the words, the script, the opening, a reply, the client's sink, the last sync, the report.
+/// The words are `run --profile small --workers 0 DIR FILE`; all others are `Usage`. The script
+/// FILE is read and parsed, the store of the directory DIR is opened on the devices, the commands
+/// run one after another, each reply is handed to the sink that is opened for client 1 under the
+/// name FILE.out before the next command runs, the store is synced and closed, and the report goes
+/// to the report's sink. Once the store was opened, it is closed and the report is written whatever
+/// happened. No other directory is chosen, no other sink is opened, and no table is touched. The
+/// cause is the first fault: of the words, the script, the opening, a reply, the client's sink, the
+/// last sync, the report.
 ///
-/// The devices come back with all that was made of them. A crash at any moment of the call, and after it, leaves the batches
-/// that were opened and first ones of the run, after it at least the settled ones.
+/// The devices come back with all that was made of them. A crash at any moment of the call, and
+/// after it, leaves the batches that were opened and first ones of the run, after it at least the
+/// settled ones.
 pub fn top_plain<D: Devices, S: Scripts, K: Sinks>(
     alloc: Global,
     words: &[String],
@@ -70,7 +74,8 @@ pub fn top_plain<D: Devices, S: Scripts, K: Sinks>(
     scripts: &mut S,
     sinks: &mut K,
 ) -> Ended<D>
-    // what it does: over a base that each image stood for, or that is read; and over some base in any case
+    // what it does: over a base that each image stood for, or that is read; and over some base in
+    // any case
     ensures ran { IfSome (run_words (map string_bytes words.now)) (λ names. IsTrue D.J.tells
         → (honest : Bool) (base : Batches)
         → OpensOn Small honest base (D.journal_told devices).seen (D.journal_told devices).may_leave
@@ -84,11 +89,13 @@ pub fn top_plain<D: Devices, S: Scripts, K: Sinks>(
         (outside D.J.Journal D.Devices K.Sinks result.devices sinks.new) result.cause) }
     // how it ends
     ensures status { result.status ≡ status_of result.cause }
-    ensures usage { (result.cause ≡ causes.Usage) ↔ (run_words (map string_bytes words.now) ≡ None) }
+    ensures usage { (result.cause ≡ causes.Usage)
+        ↔ (run_words (map string_bytes words.now) ≡ None) }
     ensures cause { IfSome (run_words (map string_bytes words.now)) (λ names. PlayCause (S.text scripts.old names.1)
         (outside D.J.Journal D.Devices K.Sinks devices sinks.old)
         (outside D.J.Journal D.Devices K.Sinks result.devices sinks.new) result.cause) }
-    ensures source { (i : ℕ) → result.cause ≡ causes.Source i → Rose (S.faults scripts.old) (S.faults scripts.new) }
+    ensures source { (i : ℕ) → result.cause ≡ causes.Source i
+        → Rose (S.faults scripts.old) (S.faults scripts.new) }
     // what stays
     ensures untouched { IsBeforeOpening result.cause → result.devices ≡ devices }
     ensures silent { IsBeforeOpening result.cause → sinks.new ≡ sinks.old }

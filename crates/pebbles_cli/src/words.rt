@@ -18,7 +18,8 @@ fn is_name(word: &str) -> bool
     }
 }
 
-/// The directory and the script that the words of a run name: `run --profile small --workers 0 DIR FILE`, seven in this order.
+/// The directory and the script that the words of a run name: `run --profile small --workers 0 DIR
+/// FILE`, seven in this order.
 ///
 /// Neither name is empty or begins with `-`. All other words name nothing.
 pub fn run_words(words: &[String]) -> Option<Names<'_>>

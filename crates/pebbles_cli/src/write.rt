@@ -9,7 +9,8 @@ use peb_base::{Key, Number, Value};
 /// Makes the batch of this number, which was just committed, stable.
 fn make_stable<S: Store>(store: &mut S, number: Number) -> Result<Number, WriteFault>
     requires { (p : Place) × S.stands store.old p × (p.stopped ≡ false) }
-    ensures stands { (p : Place) → S.stands store.old p → p.stopped ≡ false → S.stands store.new (after_stable p result) }
+    ensures stands { (p : Place) → S.stands store.old p → p.stopped ≡ false
+        → S.stands store.new (after_stable p result) }
     ensures answers { IsStable number result }
     ensures session { S.session store.new ≡ S.session store.old }
 {
@@ -22,8 +23,9 @@ fn make_stable<S: Store>(store: &mut S, number: Number) -> Result<Number, WriteF
 
 /// Commits a batch that puts one key, with `sync` makes it stable, and gives its number.
 ///
-/// `Unsynced` comes only where the journal failed in this call. `Stopped` comes exactly where it has failed before, else
-/// `Limit` exactly where the number would be passed, or `Memory`; these three change nothing.
+/// `Unsynced` comes only where the journal failed in this call. `Stopped` comes exactly where it
+/// has failed before, else `Limit` exactly where the number would be passed, or `Memory`; these
+/// three change nothing.
 pub fn write<S: Store>(
     store: &mut S,
     key: Key,

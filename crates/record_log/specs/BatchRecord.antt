@@ -48,7 +48,8 @@ abbrev pub AreOps : List Op → Type 0
 AreOps [] = Unit {0}
 AreOps (op ∷ ops) = IsOp op × AreOps ops
 
--- so many numbers from the first on are those of a batch: 1 to 1000, and all of one session, whose counts begin with 1
+-- so many numbers from the first on are those of a batch: 1 to 1000, and all of one session, whose
+-- counts begin with 1
 pub record HasNumbers (first count : ℕ) : Type 0 where
   pub some : 0 < count
   pub few : count ≤ 1000

@@ -31,12 +31,15 @@ AreGroups (group ∷ groups) = IsGroup group × AreGroups groups
 
 -- no group stands at the front with a gate behind it
 abbrev pub IsNoGroup : List ℕ → Type 0
-IsNoGroup bytes = (group : List (List ℕ)) (gate : ℕ) (rest : List ℕ) → IsGroup group → bytes ≢ group_bytes group ++ gate ∷ rest
+IsNoGroup bytes = (group : List (List ℕ)) (gate : ℕ) (rest : List ℕ) → IsGroup group
+    → bytes ≢ group_bytes group ++ gate ∷ rest
 
--- the bodies of the groups, each with the place of its group's gate, where the first gate stands at this place
+-- the bodies of the groups, each with the place of its group's gate, where the first gate stands at
+-- this place
 abbrev pub placed : ℕ → List (List (List ℕ)) → List (ℕ × List ℕ)
 placed at [] = []
-placed at (group ∷ groups) = map (λ body. (at, body)) group ++ placed (at + length (group_bytes group)) groups
+placed at (group ∷ groups) = map (λ body. (at, body)) group
+    ++ placed (at + length (group_bytes group)) groups
 
 -- the groups and one more, where that has any record
 abbrev pub with_group : List (List (List ℕ)) → List (List ℕ) → List (List (List ℕ))

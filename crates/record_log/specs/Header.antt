@@ -16,9 +16,11 @@ profile_code Small = 1
 abbrev pub header_bytes : Header → List ℕ
 header_bytes h = 1 ∷ 70 ∷ 76 ∷ 83 ∷ 77 ∷ h.kind ∷ h.form ∷ profile_code h.profile ∷ (big_bytes 8 h.number ++ big_bytes 8 h.session)
 
--- the headers that a file may have: those of a log have its number, which its session bounds; those of a manifest have no session
+-- the headers that a file may have: those of a log have its number, which its session bounds; those
+-- of a manifest have no session
 abbrev pub IsHeaderOf : JournalFile → Header → Type 0
-IsHeaderOf (Log n) h = (h.kind ≡ 76) × (h.form ≡ 1) × (h.number ≡ n) × (h.number < 2 ^ 64) × (h.session < 2 ^ 64) × (h.number ≤ 2 ^ 41 * h.session)
+IsHeaderOf (Log n) h = (h.kind ≡ 76) × (h.form ≡ 1) × (h.number ≡ n) × (h.number < 2 ^ 64)
+    × (h.session < 2 ^ 64) × (h.number ≤ 2 ^ 41 * h.session)
 IsHeaderOf ManifestA h = (h.kind ≡ 77) × (h.form ≡ 1) × (h.number ≡ 1) × (h.session ≡ 0)
 IsHeaderOf ManifestB h = (h.kind ≡ 77) × (h.form ≡ 1) × (h.number ≡ 1) × (h.session ≡ 0)
 

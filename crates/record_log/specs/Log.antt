@@ -1,4 +1,5 @@
--- The form of a whole file: a header, groups behind open gates, and a closed gate. Nothing behind that is read.
+-- The form of a whole file: a header, groups behind open gates, and a closed gate. Nothing behind
+-- that is read.
 use Rattle.std.specs.Prelude.{◌≡◌, ◌≢◌, ◌⊎◌, ℕ, ◌+◌, ◌<◌, ◌≤◌, List, ◌∷◌, ◌++◌, length, take, get_or, Option, None, Some}
 use Rattle.disk_model.specs.declared.journal_file.JournalFile.{JournalFile}
 use Rattle.record_log.specs.declared.header.Header.{Header}
@@ -25,17 +26,22 @@ abbrev pub IsUnfinished : Option (List ℕ) → Type 0
 IsUnfinished None = Unit {0}
 IsUnfinished (Some bytes) = (length bytes < 25) ⊎ (get_or bytes 0 0 ≢ 1)
 
--- the file was created to its end, and this is the first place that isn't in form: 0 for the header, and for a group its gate
+-- the file was created to its end, and this is the first place that isn't in form: 0 for the
+-- header, and for a group its gate
 pub record IsDamaged (file : JournalFile) (bytes : List ℕ) (at : ℕ) : Type 0 where
   pub long : 25 ≤ length bytes
   pub made : get_or bytes 0 0 ≡ 1
   pub place :
-      ((at ≡ 0) × ((header : Header) → IsHeaderOf file header → take 24 bytes ≢ header_bytes header))
+      ((at ≡ 0) × ((header : Header) → IsHeaderOf file header
+      → take 24 bytes ≢ header_bytes header))
       ⊎ ((header : Header) × (groups : List (List (List ℕ))) × (rest : List ℕ)
-      × Splits file bytes header groups (1 ∷ rest) × IsNoGroup (1 ∷ rest) × (at ≡ 24 + length (groups_bytes groups)))
+      × Splits file bytes header groups (1 ∷ rest) × IsNoGroup (1 ∷ rest)
+      × (at ≡ 24 + length (groups_bytes groups)))
 
--- the file holds this header, and these records of its groups, each with the place of its group's gate
-pub record Holds (file : JournalFile) (header : Header) (records : List (ℕ × List ℕ)) (found : Option (List ℕ)) : Type 0 where
+-- the file holds this header, and these records of its groups, each with the place of its group's
+-- gate
+pub record Holds (file : JournalFile) (header : Header) (records : List (ℕ
+    × List ℕ)) (found : Option (List ℕ)) : Type 0 where
   pub groups : List (List (List ℕ))
   pub log : IsLog file header groups found
   pub given : records ≡ placed 24 groups

@@ -13,7 +13,8 @@ use byteorder::{BigEndian, ByteOrder};
 use peb_base::{Batch, Change, Key, Memory, Number, Op, Value};
 use std::alloc::{AllocError, Global};
 
-/// Spells a batch as the body of a record. Its first operation has the number `first`, and the others those after it.
+/// Spells a batch as the body of a record. Its first operation has the number `first`, and the
+/// others those after it.
 ///
 /// The batch has an operation, and its numbers are of one session, which `first` belongs to.
 pub fn write_batch(alloc: Global, first: Number, batch: &Batch) -> Result<Vec<u8>, Memory>
@@ -45,7 +46,8 @@ fn put_op(bytes: &mut Vec<u8>, op: &Op) -> Result<(), AllocError>
 
 fn put_key(bytes: &mut Vec<u8>, kind: u8, key: &Key) -> Result<(), AllocError>
     ensures key { IsKey key.now }
-    ensures bytes { OnOk result (bytes.new.items ≡ bytes.old.items ++ kind ∷ counted_bytes 2 key.now) }
+    ensures bytes { OnOk result (bytes.new.items ≡ bytes.old.items
+        ++ kind ∷ counted_bytes 2 key.now) }
 {
     let key = key.bytes();
     bytes.push(kind)?;
@@ -68,7 +70,8 @@ fn put_value(bytes: &mut Vec<u8>, value: &Value) -> Result<(), AllocError>
 pub fn read_batch(alloc: Global, body: &[u8]) -> Result<(Number, Batch), BatchRecordFault>
     ensures batch { IfOk result (λ found. IsBatch found.0 found.1) }
     ensures bytes { IfOk result (λ found. body.now ≡ batch_bytes found.0 found.1) }
-    ensures form { IsErrOf result BatchRecordFault.Form → (first : ℕ) (ops : List Op) → IsBatch first ops → body.now ≢ batch_bytes first ops }
+    ensures form { IsErrOf result BatchRecordFault.Form → (first : ℕ) (ops : List Op)
+        → IsBatch first ops → body.now ≢ batch_bytes first ops }
 {
     let (first, count, rest) = match numbers_at(body) {
         Some(found) => found,
@@ -95,8 +98,10 @@ fn has_numbers(first: u64, count: usize) -> bool
 /// The number of the first operation and the count at the front, and the bytes behind them.
 fn numbers_at(body: &[u8]) -> Option<(u64, usize, &[u8])>
     ensures numbers { IfSome result (λ found. HasNumbers found.0 found.1) }
-    ensures found { IfSome result (λ found. body.now ≡ big_bytes 8 found.0 ++ big_bytes 2 found.1 ++ found.2.now) }
-    ensures none { IfNone result ((first count : ℕ) (rest : List ℕ) → HasNumbers first count → body.now ≢ big_bytes 8 first ++ big_bytes 2 count ++ rest) }
+    ensures found { IfSome result (λ found. body.now ≡ big_bytes 8 found.0 ++ big_bytes 2 found.1
+        ++ found.2.now) }
+    ensures none { IfNone result ((first count : ℕ) (rest : List ℕ) → HasNumbers first count
+        → body.now ≢ big_bytes 8 first ++ big_bytes 2 count ++ rest) }
 {
     if body.len() < 10 {
         return None;
@@ -116,7 +121,8 @@ fn ops_of(alloc: Global, count: usize, bytes: &[u8]) -> Result<Batch, BatchRecor
     ensures each { IfOk result AreOps }
     ensures counted { IfOk result (λ batch. length batch ≡ count) }
     ensures bytes { IfOk result (λ batch. bytes.now ≡ ops_bytes batch) }
-    ensures form { IsErrOf result BatchRecordFault.Form → (ops : List Op) → AreOps ops → length ops ≡ count → bytes.now ≢ ops_bytes ops }
+    ensures form { IsErrOf result BatchRecordFault.Form → (ops : List Op) → AreOps ops
+        → length ops ≡ count → bytes.now ≢ ops_bytes ops }
 {
     let mut batch = Batch::new(alloc);
     let mut rest = bytes;
@@ -140,7 +146,8 @@ fn ops_of(alloc: Global, count: usize, bytes: &[u8]) -> Result<Batch, BatchRecor
 fn op_at(alloc: Global, bytes: &[u8]) -> Result<(Op, &[u8]), BatchRecordFault>
     ensures op { IfOk result (λ found. IsOp found.0) }
     ensures found { IfOk result (λ found. bytes.now ≡ op_bytes found.0 ++ found.1.now) }
-    ensures form { IsErrOf result BatchRecordFault.Form → (op : Op) (rest : List ℕ) → IsOp op → bytes.now ≢ op_bytes op ++ rest }
+    ensures form { IsErrOf result BatchRecordFault.Form → (op : Op) (rest : List ℕ) → IsOp op
+        → bytes.now ≢ op_bytes op ++ rest }
 {
     let (kind, key, rest) = match key_at(bytes) {
         Some(found) => found,
@@ -190,8 +197,10 @@ fn put_of(alloc: Global, key: &[u8], value: &[u8]) -> Result<Op, BatchRecordFaul
 /// The kind and the key at the front, and the bytes behind them.
 fn key_at(bytes: &[u8]) -> Option<(u8, &[u8], &[u8])>
     ensures key { IfSome result (λ found. IsKey found.1.now) }
-    ensures found { IfSome result (λ found. bytes.now ≡ found.0 ∷ (counted_bytes 2 found.1.now ++ found.2.now)) }
-    ensures none { IfNone result ((kind : ℕ) (key rest : List ℕ) → IsKey key → bytes.now ≢ kind ∷ (counted_bytes 2 key ++ rest)) }
+    ensures found { IfSome result (λ found. bytes.now
+        ≡ found.0 ∷ (counted_bytes 2 found.1.now ++ found.2.now)) }
+    ensures none { IfNone result ((kind : ℕ) (key rest : List ℕ) → IsKey key
+        → bytes.now ≢ kind ∷ (counted_bytes 2 key ++ rest)) }
 {
     if bytes.is_empty() {
         return None;
@@ -209,8 +218,10 @@ fn key_at(bytes: &[u8]) -> Option<(u8, &[u8], &[u8])>
 /// The value at the front, and the bytes behind it.
 fn value_at(bytes: &[u8]) -> Option<(&[u8], &[u8])>
     ensures short { IfSome result (λ found. length found.0.now ≤ 32768) }
-    ensures found { IfSome result (λ found. bytes.now ≡ counted_bytes 4 found.0.now ++ found.1.now) }
-    ensures none { IfNone result ((value rest : List ℕ) → length value ≤ 32768 → bytes.now ≢ counted_bytes 4 value ++ rest) }
+    ensures found { IfSome result (λ found. bytes.now ≡ counted_bytes 4 found.0.now
+        ++ found.1.now) }
+    ensures none { IfNone result ((value rest : List ℕ) → length value ≤ 32768
+        → bytes.now ≢ counted_bytes 4 value ++ rest) }
 {
     let (value, rest) = match counted_by_four(bytes) {
         Some(found) => found,

@@ -7,9 +7,11 @@ use byteorder::{BigEndian, ByteOrder};
 
 /// A length of two bytes at the front and that many bytes, and the bytes behind them.
 pub fn counted_by_two(bytes: &[u8]) -> Option<(&[u8], &[u8])>
-    ensures found { IfSome result (λ found. bytes.now ≡ counted_bytes 2 found.0.now ++ found.1.now) }
+    ensures found { IfSome result (λ found. bytes.now ≡ counted_bytes 2 found.0.now
+        ++ found.1.now) }
     ensures small { IfSome result (λ found. length found.0.now < 2 ^ 16) }
-    ensures none { IfNone result ((body rest : List ℕ) → length body < 2 ^ 16 → bytes.now ≢ counted_bytes 2 body ++ rest) }
+    ensures none { IfNone result ((body rest : List ℕ) → length body < 2 ^ 16
+        → bytes.now ≢ counted_bytes 2 body ++ rest) }
 {
     if bytes.len() < 2 {
         return None;
@@ -24,9 +26,11 @@ pub fn counted_by_two(bytes: &[u8]) -> Option<(&[u8], &[u8])>
 
 /// A length of four bytes at the front and that many bytes, and the bytes behind them.
 pub fn counted_by_four(bytes: &[u8]) -> Option<(&[u8], &[u8])>
-    ensures found { IfSome result (λ found. bytes.now ≡ counted_bytes 4 found.0.now ++ found.1.now) }
+    ensures found { IfSome result (λ found. bytes.now ≡ counted_bytes 4 found.0.now
+        ++ found.1.now) }
     ensures small { IfSome result (λ found. length found.0.now < 2 ^ 32) }
-    ensures none { IfNone result ((body rest : List ℕ) → length body < 2 ^ 32 → bytes.now ≢ counted_bytes 4 body ++ rest) }
+    ensures none { IfNone result ((body rest : List ℕ) → length body < 2 ^ 32
+        → bytes.now ≢ counted_bytes 4 body ++ rest) }
 {
     if bytes.len() < 4 {
         return None;

@@ -7,7 +7,8 @@ use disk_model::Failed;
 use std::alloc::AllocError;
 use thiserror::Error;
 
-/// Why a log can't be made or read: the device failed, the bytes from a place on aren't in form, or memory is short.
+/// Why a log can't be made or read: the device failed, the bytes from a place on aren't in form, or
+/// memory is short.
 #[derive(Clone, Copy, Debug, PartialEq, Eq, Error)]
 pub enum LogFault {
     #[error("the journal failed")]

@@ -21,8 +21,8 @@ use crate::tail::Tail;
 use disk_model::{Failed, Journal, JournalFile};
 use std::alloc::Global;
 
-/// A log: a header, and groups of records behind gates. A record that was added waits in memory, in the tail, until its
-/// group is closed; then every crash leaves it.
+/// A log: a header, and groups of records behind gates. A record that was added waits in memory, in
+/// the tail, until its group is closed; then every crash leaves it.
 #[derive(Drop)]
 pub struct LogFile {
     file: JournalFile,
@@ -35,11 +35,12 @@ impl LogFile {
     ghost use Rattle.record_log.specs.Ready.{IsReady, IsBeforeOrAfter};
     ghost use Rattle.record_log.specs.State.{log_file, log_place, log_tail, log_room, HasRoom};
 
-    /// Creates a file with no group, in place of one that is there. Until `Ok` a crash leaves the file as it was, or one that
-    /// `open` doesn't find, or the new one; after it, the new one.
+    /// Creates a file with no group, in place of one that is there. Until `Ok` a crash leaves the
+    /// file as it was, or one that `open` doesn't find, or the new one; after it, the new one.
     ///
-    /// The header is one that `open` of this file takes. `Fault` tells that the journal failed, and leaves any of these three;
-    /// `Memory` comes before any call on the journal. `Damaged` never comes.
+    /// The header is one that `open` of this file takes. `Fault` tells that the journal failed, and
+    /// leaves any of these three; `Memory` comes before any call on the journal. `Damaged` never
+    /// comes.
     pub fn create<J: Journal>(
         alloc: Global,
         journal: &mut J,
@@ -47,15 +48,19 @@ impl LogFile {
         header: Header,
     ) -> Result<LogFile, LogFault>
         requires { IsHeaderOf file header }
-        ensures ready { IfOk result (λ log. IsTrue J.tells → IsReady J.tells J.seen J.may_leave journal.new log header []) }
+        ensures ready { IfOk result (λ log. IsTrue J.tells
+            → IsReady J.tells J.seen J.may_leave journal.new log header []) }
         ensures file { IfOk result (λ log. log_file log ≡ file) }
         ensures empty { IfOk result (λ log. log_tail log ≡ []) }
-        ensures fault { IsErrOf result LogFault.Fault → Rose (J.faults journal.old) (J.faults journal.new) }
+        ensures fault { IsErrOf result LogFault.Fault
+            → Rose (J.faults journal.old) (J.faults journal.new) }
         ensures undamaged { (at : ℕ) → IsErrOf result (LogFault.Damaged at) → ⊥ }
         ensures memory { IsErrOf result LogFault.Memory → journal.new ≡ journal.old }
         ensures later { J.faults journal.old ≤ J.faults journal.new }
-        ensures elsewhere { (other : JournalFile) → other ≢ file → J.seen journal.new other ≡ J.seen journal.old other }
-        ensures any_moment { IsTrue J.tells → Follows (In file (Creates file header)) (J.may_leave journal.old) (J.left_since journal.new (J.moment journal.old)) }
+        ensures elsewhere { (other : JournalFile) → other ≢ file
+            → J.seen journal.new other ≡ J.seen journal.old other }
+        ensures any_moment { IsTrue J.tells
+            → Follows (In file (Creates file header)) (J.may_leave journal.old) (J.left_since journal.new (J.moment journal.old)) }
         ensures time { Elapses (J.moment journal.old) (J.moment journal.new) (J.left_since journal.old) (J.left_since journal.new) }
         ensures steady { J.steady journal.old → J.steady journal.new }
     {
@@ -70,21 +75,28 @@ impl LogFile {
         })
     }
 
-    /// Syncs the file and reads it: its header, and the records of all groups whose gate is open, in order.
+    /// Syncs the file and reads it: its header, and the records of all groups whose gate is open,
+    /// in order.
     ///
-    /// `None` tells that the file isn't there or wasn't created to its end. `Damaged` tells the first place where the bytes
-    /// aren't in form: 0 for the header, the place of its gate for a group. `Fault` tells that the journal failed. Nothing is
-    /// changed; after `Ok` every crash leaves the file as it was read.
+    /// `None` tells that the file isn't there or wasn't created to its end. `Damaged` tells the
+    /// first place where the bytes aren't in form: 0 for the header, the place of its gate for a
+    /// group. `Fault` tells that the journal failed. Nothing is changed; after `Ok` every crash
+    /// leaves the file as it was read.
     pub fn open<J: Journal>(
         alloc: Global,
         journal: &mut J,
         file: JournalFile,
     ) -> Result<Option<(Header, Vec<Record>)>, LogFault>
-        ensures found { IfOk result (λ found. IfSome found (λ log. IsTrue J.tells → Holds file log.0 (views log.1.items) (J.seen journal.old file))) }
+        ensures found { IfOk result (λ found. IfSome found (λ log. IsTrue J.tells
+            → Holds file log.0 (views log.1.items) (J.seen journal.old file))) }
         ensures header { IfOk result (λ found. IfSome found (λ log. IsHeaderOf file log.0)) }
-        ensures absent { IfOk result (λ found. IfNone found (IsTrue J.tells → IsUnfinished (J.seen journal.old file))) }
-        ensures damaged { IfErr result (λ fault. IsTrue J.tells → AtDamage fault (λ at. (bytes : List ℕ) × (J.seen journal.old file ≡ Some bytes) × IsDamaged file bytes at)) }
-        ensures fault { IsErrOf result LogFault.Fault → Rose (J.faults journal.old) (J.faults journal.new) }
+        ensures absent { IfOk result (λ found. IfNone found (IsTrue J.tells
+            → IsUnfinished (J.seen journal.old file))) }
+        ensures damaged { IfErr result (λ fault. IsTrue J.tells
+            → AtDamage fault (λ at. (bytes : List ℕ) × (J.seen journal.old file ≡ Some bytes)
+            × IsDamaged file bytes at)) }
+        ensures fault { IsErrOf result LogFault.Fault
+            → Rose (J.faults journal.old) (J.faults journal.new) }
         ensures later { J.faults journal.old ≤ J.faults journal.new }
         ensures kept { OnOk result (Keeps file (J.seen journal.old file) (J.may_leave journal.new)) }
         ensures seen { J.seen journal.new ≡ J.seen journal.old }
@@ -108,13 +120,16 @@ impl LogFile {
         self.tail.len() as u64
     }
 
-    /// Makes room for a record with a body of `len` bytes, so that the next `add` of such a body or of a shorter one gives `Ok`.
+    /// Makes room for a record with a body of `len` bytes, so that the next `add` of such a body or
+    /// of a shorter one gives `Ok`.
     ///
-    /// `Full` comes exactly where that `add` would pass the limit of 2,147,483,648 bytes, else `Memory`. The tail stays.
+    /// `Full` comes exactly where that `add` would pass the limit of 2,147,483,648 bytes, else
+    /// `Memory`. The tail stays.
     pub fn reserve(&mut self, len: u64) -> Result<(), AddFault>
         ensures room { OnOk result (HasRoom self.new len) }
         ensures sure { HasRoom self.old len → IsOk result }
-        ensures full { IsErrOf result AddFault.Full ↔ (2 ^ 31 < length (log_tail self.old) + 4 + len) }
+        ensures full { IsErrOf result AddFault.Full
+            ↔ (2 ^ 31 < length (log_tail self.old) + 4 + len) }
         ensures tail { log_tail self.new ≡ log_tail self.old }
         ensures file { log_file self.new ≡ log_file self.old }
         ensures place { log_place self.new ≡ log_place self.old }
@@ -124,35 +139,41 @@ impl LogFile {
 
     /// Adds a record to those that wait.
     ///
-    /// `Full` comes exactly where they would pass the limit of 2,147,483,648 bytes, else `Memory`, and that only where no room
-    /// was reserved. An error leaves the tail as it was.
+    /// `Full` comes exactly where they would pass the limit of 2,147,483,648 bytes, else `Memory`,
+    /// and that only where no room was reserved. An error leaves the tail as it was.
     pub fn add(&mut self, body: &[u8]) -> Result<(), AddFault>
         ensures ok { OnOk result (log_tail self.new ≡ log_tail self.old ++ record_bytes body.now) }
         ensures err { OnErr result (log_tail self.new ≡ log_tail self.old) }
         ensures sure { (len : ℕ) → HasRoom self.old len → length body.now ≤ len → IsOk result }
-        ensures full { IsErrOf result AddFault.Full ↔ (2 ^ 31 < length (log_tail self.old) + 4 + length body.now) }
+        ensures full { IsErrOf result AddFault.Full
+            ↔ (2 ^ 31 < length (log_tail self.old) + 4 + length body.now) }
         ensures file { log_file self.new ≡ log_file self.old }
         ensures place { log_place self.new ≡ log_place self.old }
     {
         self.tail.add(body)
     }
 
-    /// Writes the group of the records that wait, and opens its gate. After `Ok` nothing waits, and every crash leaves the group;
-    /// at any moment before, all of it or nothing. Where nothing waits, no call is made on the journal. It takes no memory.
+    /// Writes the group of the records that wait, and opens its gate. After `Ok` nothing waits, and
+    /// every crash leaves the group; at any moment before, all of it or nothing. Where nothing
+    /// waits, no call is made on the journal. It takes no memory.
     ///
     /// `Failed` tells that the journal failed. The log is spent then: open its file again.
     pub fn close_group<J: Journal>(&mut self, journal: &mut J) -> Result<(), Failed>
-        requires { IsTrue J.tells → (header : Header) × (groups : List (List (List ℕ))) × IsReady J.tells J.seen J.may_leave journal.old self.old header groups }
+        requires { IsTrue J.tells → (header : Header) × (groups : List (List (List ℕ)))
+            × IsReady J.tells J.seen J.may_leave journal.old self.old header groups }
         ensures closed { OnOk result ((header : Header) (groups : List (List (List ℕ))) (bodies : List (List ℕ))
-            → IsReady J.tells J.seen J.may_leave journal.old self.old header groups → log_tail self.old ≡ records_bytes bodies
+            → IsReady J.tells J.seen J.may_leave journal.old self.old header groups
+            → log_tail self.old ≡ records_bytes bodies
             → IsReady J.tells J.seen J.may_leave journal.new self.new header (with_group groups bodies)) }
         ensures tail { OnOk result (log_tail self.new ≡ []) }
         ensures room { OnOk result (log_room self.old ≤ log_room self.new) }
         ensures file { log_file self.new ≡ log_file self.old }
         ensures any_moment { (header : Header) (groups : List (List (List ℕ))) (bodies : List (List ℕ))
-            → IsReady J.tells J.seen J.may_leave journal.old self.old header groups → log_tail self.old ≡ records_bytes bodies
+            → IsReady J.tells J.seen J.may_leave journal.old self.old header groups
+            → log_tail self.old ≡ records_bytes bodies
             → Follows (In (log_file self.old) (λ old new. IsBeforeOrAfter (log_file self.old) header groups bodies new)) (J.may_leave journal.old) (J.left_since journal.new (J.moment journal.old)) }
-        ensures elsewhere { (other : JournalFile) → other ≢ log_file self.old → J.seen journal.new other ≡ J.seen journal.old other }
+        ensures elsewhere { (other : JournalFile) → other ≢ log_file self.old
+            → J.seen journal.new other ≡ J.seen journal.old other }
         ensures time { Elapses (J.moment journal.old) (J.moment journal.new) (J.left_since journal.old) (J.left_since journal.new) }
         ensures steady { J.steady journal.old → J.steady journal.new }
         ensures cause { HasCause (J.faults journal.old) (J.faults journal.new) result }

@@ -11,8 +11,9 @@ use std::alloc::{AllocError, Global};
 /// The most bytes of records that may wait.
 const MOST: usize = 1 << 31;
 
-/// The records that wait for the next group, as they will be written behind its gate: their length, the records, and the
-/// next gate, closed. So a group is one write, and takes no memory when it is closed.
+/// The records that wait for the next group, as they will be written behind its gate: their length,
+/// the records, and the next gate, closed. So a group is one write, and takes no memory when it is
+/// closed.
 #[derive(Drop)]
 pub struct Tail {
     group: Vec<u8>,
@@ -44,7 +45,8 @@ impl Tail {
         ensures records { waiting self.new ≡ waiting self.old }
         ensures room { OnOk result (4 + len ≤ room_of self.new) }
         ensures within { OnOk result (length (waiting self.new) + 4 + len ≤ 2 ^ 31) }
-        ensures sure { 4 + len ≤ room_of self.old → length (waiting self.old) + 4 + len ≤ 2 ^ 31 → IsOk result }
+        ensures sure { 4 + len ≤ room_of self.old → length (waiting self.old) + 4 + len ≤ 2 ^ 31
+            → IsOk result }
         ensures full { IsErrOf result Full ↔ (2 ^ 31 < length (waiting self.old) + 4 + len) }
     {
         let most = MOST as u64;
@@ -77,8 +79,10 @@ impl Tail {
     pub fn add(&mut self, body: &[u8]) -> Result<(), AddFault>
         ensures ok { OnOk result (waiting self.new ≡ waiting self.old ++ record_bytes body.now) }
         ensures err { OnErr result (waiting self.new ≡ waiting self.old) }
-        ensures sure { 4 + length body.now ≤ room_of self.old → length (waiting self.old) + 4 + length body.now ≤ 2 ^ 31 → IsOk result }
-        ensures full { IsErrOf result Full ↔ (2 ^ 31 < length (waiting self.old) + 4 + length body.now) }
+        ensures sure { 4 + length body.now ≤ room_of self.old
+            → length (waiting self.old) + 4 + length body.now ≤ 2 ^ 31 → IsOk result }
+        ensures full { IsErrOf result Full
+            ↔ (2 ^ 31 < length (waiting self.old) + 4 + length body.now) }
     {
         self.reserve(body.len() as u64)?;
         self.push(body)?;

@@ -128,7 +128,8 @@ fn a_put_and_a_deletion_have_these_bytes(rt: HostRuntime) -> Result<(), Fail> {
 #[test]
 fn bytes_that_spell_no_batch_are_refused(rt: HostRuntime) -> Result<(), Fail> {
     let alloc = rt.alloc();
-    // The session, the count in it, the number of operations, the kind, the key's length and the value's.
+    // The session, the count in it, the number of operations, the kind, the key's length and the
+    // value's.
     for (at, value) in [
         (2, 0),
         (7, 0),

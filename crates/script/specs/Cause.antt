@@ -23,14 +23,16 @@ status_of (causes.Profile have asked) = 11
 abbrev pub cause_text : Cause → List ℕ
 cause_text causes.Done = codes "done"
 cause_text causes.Usage = codes "usage"
-cause_text (causes.Script script line why) = codes "script " ++ decimal script ++ codes " line " ++ decimal line ++ 32 ∷ why_text why
+cause_text (causes.Script script line why) = codes "script " ++ decimal script ++ codes " line "
+    ++ decimal line ++ 32 ∷ why_text why
 cause_text causes.Journal = codes "journal"
 cause_text (causes.Damaged file at) = codes "damaged " ++ file_text file ++ 32 ∷ decimal at
 cause_text causes.Memory = codes "memory"
 cause_text (causes.Limit kind n) = codes "limit " ++ limit_text kind ++ 32 ∷ decimal n
 cause_text (causes.Sink sink) = codes "sink " ++ decimal sink
 cause_text (causes.Source source) = codes "source " ++ decimal source
-cause_text (causes.Profile have asked) = codes "profile " ++ profile_text have ++ 32 ∷ profile_text asked
+cause_text (causes.Profile have asked) = codes "profile " ++ profile_text have
+    ++ 32 ∷ profile_text asked
 
 -- the line on standard error; where the run is done there is none
 abbrev pub cause_line : Cause → List ℕ

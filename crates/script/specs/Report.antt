@@ -5,7 +5,8 @@ use Rattle.peb_base.specs.Texts.{number_text}
 
 -- the line of a level to which no table was written
 abbrev pub level_text : ℕ → List ℕ
-level_text level = codes "level " ++ decimal level ++ codes " tables 0 entries 0 bytes 0 cuts 0 short 0 lost 0\n"
+level_text level = codes "level " ++ decimal level
+    ++ codes " tables 0 entries 0 bytes 0 cuts 0 short 0 lost 0\n"
 
 -- the lines of so many levels, from 0 on
 abbrev pub levels_text : ℕ → List ℕ

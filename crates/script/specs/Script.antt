@@ -29,7 +29,8 @@ front command (Ok commands) = Ok (command ∷ commands)
 front command (Err refusal) = Err refusal
 
 -- what the line with this number says, before what the lines after it say
-abbrev pub taken : ℕ → Result Command Why → Result (List Command) Refusal → Result (List Command) Refusal
+abbrev pub taken : ℕ → Result Command Why → Result (List Command) Refusal
+    → Result (List Command) Refusal
 taken line (Ok command) rest = front command rest
 taken line (Err why) rest = Err (line, why)
 

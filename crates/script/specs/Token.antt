@@ -24,18 +24,21 @@ hex_digit n = if nat_lt n 10 then n + 48 else n - 10 + 65
 
 -- ---- what a text spells, as a relation
 
--- this text spells this one byte: the byte itself where it is plain, or a percent sign and two digits of either case
+-- this text spells this one byte: the byte itself where it is plain, or a percent sign and two
+-- digits of either case
 abbrev pub SpellsByte : List ℕ → ℕ → Type 0
 SpellsByte [] b = ⊥
 SpellsByte (c ∷ []) b = (is_plain_byte c ≡ true) × (b ≡ c)
 SpellsByte (p ∷ h ∷ []) b = ⊥
-SpellsByte (p ∷ h ∷ l ∷ []) b = (p ≡ 37) × (high : ℕ) × (low : ℕ) × (hex_value h ≡ Some high) × (hex_value l ≡ Some low) × (b ≡ high * 16 + low)
+SpellsByte (p ∷ h ∷ l ∷ []) b = (p ≡ 37) × (high : ℕ) × (low : ℕ) × (hex_value h ≡ Some high)
+    × (hex_value l ≡ Some low) × (b ≡ high * 16 + low)
 SpellsByte (p ∷ h ∷ l ∷ c ∷ cs) b = ⊥
 
 -- this text spells these bytes, one after another
 abbrev pub SpellsBytes : List ℕ → List ℕ → Type 0
 SpellsBytes text [] = text ≡ []
-SpellsBytes text (b ∷ bs) = (front : List ℕ) × (rest : List ℕ) × (text ≡ front ++ rest) × SpellsByte front b × SpellsBytes rest bs
+SpellsBytes text (b ∷ bs) = (front : List ℕ) × (rest : List ℕ) × (text ≡ front ++ rest)
+    × SpellsByte front b × SpellsBytes rest bs
 
 -- a token spells a string: two quotation marks spell the empty one
 abbrev pub SpellsToken : List ℕ → List ℕ → Type 0

@@ -12,7 +12,8 @@ pub fn law_lines()
     ensures { LinesAreExact }
 {}
 
-/// The commands of a script that was written are those that were written, and each command that is read can be written.
+/// The commands of a script that was written are those that were written, and each command that is
+/// read can be written.
 pub fn law_written()
     ensures again { WrittenIsRead }
     ensures ranges { ReadIsCommand }

@@ -1,9 +1,10 @@
-//! Reads scripts of commands, and writes commands, replies, reports and the causes for which a run ends.
+//! Reads scripts of commands, and writes commands, replies, reports and the causes for which a run
+//! ends.
 //!
-//! The layers above use `parse`, `Command`, `Reply` with `reply_into`, `Report` and `Cause`, and know their texts by the
-//! definitions in `specs/`: `Line` and `Script` for what is read, `Written` for what is written. They may not know how a
-//! line is cut into words or a token is read. A further command is one more function in `line.rt` and one more test in
-//! `line_at`.
+//! The layers above use `parse`, `Command`, `Reply` with `reply_into`, `Report` and `Cause`, and
+//! know their texts by the definitions in `specs/`: `Line` and `Script` for what is read, `Written`
+//! for what is written. They may not know how a line is cut into words or a token is read. A
+//! further command is one more function in `line.rt` and one more test in `line_at`.
 #![tactic(auto)]
 
 mod cause;

@@ -39,11 +39,12 @@ fn at_line(line: u64, fault: LineFault) -> ParseFault
 
 /// Reads a script: lines that end with LF, of which the last may be missing.
 ///
-/// Ok gives the commands, one a line, exactly where every line is `put! KEY VALUE` or `get KEY`, its words separated by
-/// one space each, KEY a token of 1 to 1024 bytes and VALUE a token of at most 32,768. `Bad` tells exactly the first
-/// other line, counted from 1.
+/// Ok gives the commands, one a line, exactly where every line is `put! KEY VALUE` or `get KEY`,
+/// its words separated by one space each, KEY a token of 1 to 1024 bytes and VALUE a token of at
+/// most 32,768. `Bad` tells exactly the first other line, counted from 1.
 pub fn parse(alloc: Global, bytes: &[u8]) -> Result<Vec<Command>, ParseFault>
-    ensures { MatchResult result (λ v. script_of bytes.now ≡ Ok v.items) (λ e. Refused e (script_of bytes.now)) }
+    ensures { MatchResult result (λ v. script_of bytes.now
+        ≡ Ok v.items) (λ e. Refused e (script_of bytes.now)) }
 {
     let mut commands = Vec::new(alloc);
     let mut line = 1;

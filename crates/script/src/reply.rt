@@ -54,7 +54,8 @@ fn put_words(reply: &Reply, out: &mut ReplyBuf)
     }
 }
 
-/// Leaves the line of a reply, with its LF, in the buffer, in place of what it held. A value has at most 32,768 bytes.
+/// Leaves the line of a reply, with its LF, in the buffer, in place of what it held. A value has at
+/// most 32,768 bytes.
 ///
 /// It takes no memory, so no reply is lost for want of it.
 pub fn reply_into(reply: &Reply, out: &mut ReplyBuf)

@@ -11,7 +11,8 @@ use peb_base::{Memory, Number};
 use std::alloc::Global;
 use std::marker::Model;
 
-/// Room for one line of reply, 102,400 bytes: enough for the token of any value, at three bytes a byte.
+/// Room for one line of reply, 102,400 bytes: enough for the token of any value, at three bytes a
+/// byte.
 #[derive(Debug, Drop)]
 pub struct ReplyBuf {
     bytes: Vec<u8>,

@@ -7,7 +7,8 @@ ghost use Rattle.script.specs.Report.{level_text, report_text};
 use peb_base::{Memory, Number};
 use std::alloc::{AllocError, Global};
 
-/// What the program prints of a run that moved no tables: the last number, and zeros for each level.
+/// What the program prints of a run that moved no tables: the last number, and zeros for each
+/// level.
 #[derive(Clone, Copy, Debug)]
 pub struct Report {
     pub last: Number,

@@ -17,8 +17,8 @@ fn put_word(out: &mut Vec<u8>, bytes: &[u8]) -> Result<(), AllocError>
     put_token(out, bytes)
 }
 
-/// The line of a command, with its LF: the commands of a script of such lines are those that were written, where every
-/// put asks for sync.
+/// The line of a command, with its LF: the commands of a script of such lines are those that were
+/// written, where every put asks for sync.
 pub fn write_command(alloc: Global, command: &Command) -> Result<Vec<u8>, Memory>
     ensures { IfOk result (λ v. v.items ≡ command_text command.now) }
 {

@@ -44,8 +44,7 @@ returns-in-Err-Full-clause-answers g c = λ p is.
     c.in-Ok-write_batch.ensures.bytes ∙ ap (batch_bytes c.in-Some.number) c.in-Ok.ensures ∙ sym (record_of-is (c.in-Some.number, ops)) ∙ ap (λ n. record_of (n, ops)) numbered in
     let over : 2 ^ 31 < length (log_tail c.args.self.now.log) + 4 + c.len.result = c.in-Err-Full.ensures.full.0 (ap Err c.in-Err-Full.field-0-is) in
     let tail = ap length (is.waits fine).tail in
-    let size = ap length body in
-    (
+    let size = ap length body in (
       fine,
       inr (
         refl,
@@ -64,8 +63,7 @@ returns-clause-answers g c = λ p is.
     let body : c.in-Ok-write_batch.body.items ≡ record_of (next_number c.args.self.now.session (all_of p), ops) =
     c.in-Ok-write_batch.ensures.bytes ∙ ap (batch_bytes c.in-Some.number) c.in-Ok.ensures ∙ sym (record_of-is (c.in-Some.number, ops)) ∙ ap (λ n. record_of (n, ops)) numbered in
     let tail = ap length (is.waits fine).tail in
-    let size = ap length body in
-    (
+    let size = ap length body in (
       fine,
       record {
         numbered = λ out. omega (arith, out, numbered, c.in-Some.ensures.below);
