@@ -66,7 +66,7 @@ impl MemDevices {
             ports,
             makers,
             stock: Stock::resting(PortTables::none(alloc)),
-            directories: Directories::none(),
+            directories: Directories::none(alloc),
             faults: 0,
         })
     }
@@ -107,7 +107,7 @@ impl MemDevices {
             ports: Arc::new(alloc, KindTurns::new(FailPlan::empty(alloc)))?,
             makers: Arc::new(alloc, KindTurns::new(FailPlan::empty(alloc)))?,
             stock: Stock::resting(tables),
-            directories: Directories::none(),
+            directories: Directories::none(alloc),
             faults: 0,
         })
     }

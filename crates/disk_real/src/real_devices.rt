@@ -52,9 +52,10 @@ impl<R: Files<File: KeepOut> + Wait + AllocGlobal + Clone + Drop> RealDevices<R>
         ensures gone { gone_by result.makers ≡ none_gone }
         ensures table_faults { result.table_faults.count ≡ 0 }
     {
+        let directories = Directories::none(rt.alloc());
         RealDevices {
             rt,
-            directories: Directories::none(),
+            directories,
             shared: None,
             is_trusted: true,
             journal_faults: Faults::none(),
