@@ -7,7 +7,8 @@ use std::alloc::Global;
 use std::marker::Model;
 use std::mem;
 
-/// What devices keep of directories: which one was chosen last, and of which one the journal was handed out last.
+/// What devices keep of directories: which one was chosen last, and of which one the journal was
+/// handed out last.
 #[derive(Drop)]
 pub struct Directories {
     chosen: String,

@@ -1,4 +1,5 @@
-/// Of which directory the journal was handed out last: of none, of the one that was chosen last, or of an earlier one.
+/// Of which directory the journal was handed out last: of none, of the one that was chosen last, or
+/// of an earlier one.
 ///
 /// So handing out a journal copies no name.
 #[derive(Clone, Copy)]

@@ -13,8 +13,8 @@ fn seal<M: Maker>(maker: &mut M, number: u64, bytes: &[u8]) -> Result<M::File, F
     maker.seal()
 }
 
-/// Devices with the tables 1, 2 and 3, of which the first is retired and the second removed, and the number 4
-/// begun.
+/// Devices with the tables 1, 2 and 3, of which the first is retired and the second removed, and
+/// the number 4 begun.
 fn written(alloc: Global) -> Result<MemDevices, Fail> {
     let mut devices = MemDevices::new(alloc, Plans::empty(alloc))?;
     let mut maker = devices.maker()?;
@@ -47,7 +47,8 @@ fn left(alloc: Global, pick: Pick) -> Result<(Vec<u64>, Vec<u8>), Fail> {
     tables_of(alloc, &mut devices, 3)
 }
 
-/// What two reads of table 3 give, by a port and by a fork of it, and whether tables 1 and 4 are found.
+/// What two reads of table 3 give, by a port and by a fork of it, and whether tables 1 and 4 are
+/// found.
 fn read(alloc: Global) -> Result<(usize, [u8; 4], usize, [bool; 2]), Fail> {
     let mut devices = written(alloc)?;
     let mut port = devices.port()?;
@@ -62,8 +63,8 @@ fn read(alloc: Global) -> Result<(usize, [u8; 4], usize, [bool; 2]), Fail> {
     Ok((count, out, end, found))
 }
 
-/// Which calls of two makers and of two ports fail where the third call of makers, and the fourth and all later ones
-/// of ports fail.
+/// Which calls of two makers and of two ports fail where the third call of makers, and the fourth
+/// and all later ones of ports fail.
 fn planned(alloc: Global) -> Result<([bool; 2], [bool; 4]), Fail> {
     let mut plans = Plans::empty(alloc);
     plans.maker.calls = vec![in alloc; 3]?;

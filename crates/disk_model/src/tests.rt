@@ -29,7 +29,8 @@ fn left(alloc: Global, sync: bool, pick: Pick) -> Result<Vec<u8>, Fail> {
     Ok(devices.bytes_of(LOG).unwrap_or(b"none").to_vec(alloc)?)
 }
 
-/// Calls on a journal whose second, fifth and all later calls fail: which did, and what the log holds then.
+/// Calls on a journal whose second, fifth and all later calls fail: which did, and what the log
+/// holds then.
 fn planned(alloc: Global) -> Result<([bool; 5], Vec<u8>), Fail> {
     let mut plans = Plans::empty(alloc);
     plans.journal = FailPlan {
