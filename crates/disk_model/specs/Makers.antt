@@ -13,21 +13,25 @@ pub record IsNewMaker {M F : Type 0} (g : Ghosts M F) (maker : M) : Type 0 where
   pub none_sealed : (n : ℕ) → g.sealed maker n ≡ None
 
 -- the maker took no table away, and the call failed by it only where its count of faults rose
-pub record TakesNothingAway {M F : Type 0} (g : Ghosts M F) (old new : M) (failed : Type 0) : Type 0 where
+pub record TakesNothingAway {M F : Type 0} (g : Ghosts M F) (old new : M)
+    (failed : Type 0) : Type 0 where
   pub gone : g.gone new ≡ g.gone old
   pub later : g.faults old ≤ g.faults new
   pub cause : failed → Rose (g.faults old) (g.faults new)
 
--- the maker sealed no table and took none away, and the call failed by it only where its count of faults rose
-pub record SealsNothing {M F : Type 0} (g : Ghosts M F) (old new : M) (failed : Type 0) : Type 0 where
+-- the maker sealed no table and took none away, and the call failed by it only where its count of
+-- faults rose
+pub record SealsNothing {M F : Type 0} (g : Ghosts M F) (old new : M)
+    (failed : Type 0) : Type 0 where
   pub sealed : g.sealed new ≡ g.sealed old
   pub gone : g.gone new ≡ g.gone old
   pub later : g.faults old ≤ g.faults new
   pub cause : failed → Rose (g.faults old) (g.faults new)
 
--- the maker wrote at most: it began, sealed and took away no table, and the call failed by it only where its count of
--- faults rose
-pub record WritesAtMost {M F : Type 0} (g : Ghosts M F) (old new : M) (failed : Type 0) : Type 0 where
+-- the maker wrote at most: it began, sealed and took away no table, and the call failed by it only
+-- where its count of faults rose
+pub record WritesAtMost {M F : Type 0} (g : Ghosts M F) (old new : M)
+    (failed : Type 0) : Type 0 where
   pub begun : g.begun new ≡ g.begun old
   pub sealed : g.sealed new ≡ g.sealed old
   pub gone : g.gone new ≡ g.gone old

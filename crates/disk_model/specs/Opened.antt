@@ -1,16 +1,14 @@
 -- The names that devices keep of directories.
-use Rattle.std.specs.Prelude.{ℕ, List, Option, None, Some, string_bytes}
-use Rattle.std.specs.declared.alloc.Global.{Global}
-use Rattle.std.specs.declared.string.String.{String}
+use Rattle.std.specs.Prelude.{ℕ, ◌==◌, List, Option, None, Some, if◌then◌else◌}
 use Rattle.disk_model.specs.declared.opened.Opened.{Opened}
-use Rattle.disk_model.specs.declared.opened.Opened.TheVariants.{Chosen, Other}
+use Rattle.disk_model.specs.declared.opened.Opened.TheVariants.{Nothing, Chosen, Earlier}
 
--- the bytes of a name, if there is one
-abbrev pub name_of : Option (String Global) → Option (List ℕ)
-name_of None = None
-name_of (Some name) = Some (string_bytes name)
+-- the name that was chosen last, where so many were
+abbrev pub chosen_name : ℕ → List ℕ → Option (List ℕ)
+chosen_name choices name = if choices == 0 then None else Some name
 
--- the name of the directory whose journal was handed out last, where this one was chosen last
-abbrev pub opened_name : Option (List ℕ) → Opened → Option (List ℕ)
-opened_name chosen Chosen = chosen
-opened_name chosen (Other name) = name_of name
+-- the name of the directory whose journal was handed out last
+abbrev pub opened_name : Opened → Option (List ℕ) → List ℕ → Option (List ℕ)
+opened_name Nothing chosen earlier = None
+opened_name Chosen chosen earlier = chosen
+opened_name Earlier chosen earlier = Some earlier

@@ -14,14 +14,16 @@ use Rattle.disk_model.specs.TableLists.{table_in}
 
 -- the table files that a port reads
 abbrev pub files_in : PortTables → TableFiles
-files_in tables = record { sealed = table_in tables.sealed.items; is_unsealed = is_among tables.unsealed.items }
+files_in tables =
+    record { sealed = table_in tables.sealed.items; is_unsealed = is_among tables.unsealed.items }
 
 -- this is the number that is begun
 abbrev pub is_begun : Option ℕ → ℕ → Bool
 is_begun None n = false
 is_begun (Some number) n = number == n
 
--- each table that was sealed, also where it was retired or removed since; the latest of its number counts
+-- each table that was sealed, also where it was retired or removed since; the latest of its number
+-- counts
 abbrev pub kept_by : Shelf → Sealed
 kept_by (Resting tables) n = table_in tables.sealed.items n
 kept_by (More' made place earlier) n = option_or (table_in made.tables.items n) (kept_by earlier n)
@@ -44,8 +46,8 @@ begun_by (More' made place earlier) n = is_begun made.begun n || begun_by earlie
 abbrev pub without : (ℕ → Bool) → Sealed → Sealed
 without lost sealed n = if lost n then None else sealed n
 
--- whether what was done with the file of this number, and isn't durable, stands after a crash: never by Old, always by
--- New, else by a bit of the seed
+-- whether what was done with the file of this number, and isn't durable, stands after a crash:
+-- never by Old, always by New, else by a bit of the seed
 abbrev pub is_done : Pick → ℕ → Bool
 is_done Old n = false
 is_done New n = true
@@ -55,8 +57,8 @@ is_done (Seeded seed) n = (seed / 2 ^ (n % 64)) % 2 == 1
 abbrev pub is_lost : Pick → Gone → ℕ → Bool
 is_lost pick gone n = is_done pick n && is_gone gone n
 
--- the table files that a crash leaves: each sealed table, but perhaps those that were retired or removed; and perhaps
--- those that were begun and not sealed
+-- the table files that a crash leaves: each sealed table, but perhaps those that were retired or
+-- removed; and perhaps those that were begun and not sealed
 abbrev pub files_left : Pick → Shelf → TableFiles
 files_left pick shelf = record {
   sealed = without (is_lost pick (gone_by shelf)) (kept_by shelf);
@@ -75,7 +77,8 @@ abbrev pub tally_of : Stock → Tally
 tally_of stock = record { reads = stock.reads; taken = stock.taken; gone = gone_by stock.shelf }
 
 -- the tables that are there are what a crash may leave
-pub there_left : (shelf : Shelf) → IsTableImage (kept_by shelf) (gone_by shelf) (files_of shelf).sealed
+pub there_left : (shelf : Shelf)
+    → IsTableImage (kept_by shelf) (gone_by shelf) (files_of shelf).sealed
 there_left shelf n = by (is_gone (gone_by shelf) n) refl where
   by : (gone : Bool) → is_gone (gone_by shelf) n ≡ gone → (cond gone None (kept_by shelf n) ≡ kept_by shelf n) ⊎ (IsTrue (is_gone (gone_by shelf) n) × (cond gone None (kept_by shelf n) ≡ None))
   by true is = inr (is, refl)

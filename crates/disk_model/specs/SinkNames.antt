@@ -12,8 +12,8 @@ abbrev pub name_of : Option Label → Option (List ℕ)
 name_of None = None
 name_of (Some label) = Some label.name
 
--- how often a client's sink was opened, a count that stays at 2^64 - 1, and for each client the label of the sink
--- that was handed back for it last
+-- how often a client's sink was opened, a count that stays at 2^64 - 1, and for each client the
+-- label of the sink that was handed back for it last
 pub record SinkNames : Type 0 where
   pub opened : ℕ
   pub returned : ℕ → Option Label
@@ -24,4 +24,5 @@ after_client names = record names { opened = capped (names.opened + 1) }
 
 -- a sink with this label was handed back for this client
 abbrev pub after_return : ℕ → Label → SinkNames → SinkNames
-after_return index label names = record names { returned = λ i. if index == i then Some label else names.returned i }
+after_return index label names =
+    record names { returned = λ i. if index == i then Some label else names.returned i }

@@ -7,4 +7,5 @@ use Rattle.disk_model.specs.Past.{kept_after}
 
 -- of each file what its last sync or removal left, and of the others what was there at first
 abbrev pub synced_of : MemDevices → Image
-synced_of devices = kept_after (image_of devices.journal.first.items) (reverse devices.journal.past.items)
+synced_of devices =
+    kept_after (image_of devices.journal.first.items) (reverse devices.journal.past.items)

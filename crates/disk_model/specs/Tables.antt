@@ -1,5 +1,5 @@
 -- What ports, makers and devices tell of tables.
-use Rattle.std.specs.Prelude.{◌≡◌, ◌⊎◌, ℕ, ◌+◌, ◌-◌, ◌^◌, ◌≤◌, ◌==◌, min, Bool, false, ◌||◌, IsTrue, List, [], ◌∷◌, ◌++◌, length, take, Option, None, Some, is_some, if◌then◌else◌}
+use Rattle.std.specs.Prelude.{◌≡◌, ◌⊎◌, ℕ, ◌+◌, ◌-◌, ◌^◌, ◌≤◌, ◌==◌, min, Bool, ◌||◌, IsTrue, List, [], ◌∷◌, ◌++◌, length, take, Option, None, Some, is_some, if◌then◌else◌}
 use Rattle.std.specs.List.{list_any}
 use Rattle.std.specs.List.Sorted.{IsStrictlyIncreasing}
 
@@ -52,7 +52,8 @@ with_removed number gone = record gone { removed = gone.removed ++ number ∷ []
 
 -- the numbers of both, those of the first before those of the second
 abbrev pub joined : Gone → Gone → Gone
-joined first second = record { retired = first.retired ++ second.retired; removed = first.removed ++ second.removed }
+joined first second =
+    record { retired = first.retired ++ second.retired; removed = first.removed ++ second.removed }
 
 -- the table of this number was retired or removed
 abbrev pub is_gone : Gone → ℕ → Bool
@@ -62,20 +63,22 @@ is_gone gone n = is_among gone.retired n || is_among gone.removed n
 abbrev pub StaysOrGoes : Gone → ℕ → Option (List ℕ) → Option (List ℕ) → Type 0
 StaysOrGoes gone n bytes now = (now ≡ bytes) ⊎ (IsTrue (is_gone gone n) × (now ≡ None))
 
--- A crash may leave these tables: each that was sealed keeps its bytes, but one that was retired or removed may
--- be there or not.
+-- A crash may leave these tables: each that was sealed keeps its bytes, but one that was retired or
+-- removed may be there or not.
 abbrev pub IsTableImage : Sealed → Gone → Sealed → Type 0
 IsTableImage kept gone image = (n : ℕ) → StaysOrGoes gone n (kept n) (image n)
 
--- a write that failed took some first bytes, or none: those are counted, and stand after the earlier ones
-pub record TakesSome (tells : Bool) (bytes : List ℕ) (taken0 taken : ℕ) (written0 written : List ℕ) : Type 0 where
+-- a write that failed took some first bytes, or none: those are counted, and stand after the
+-- earlier ones
+pub record TakesSome (tells : Bool) (bytes : List ℕ) (taken0 taken : ℕ)
+    (written0 written : List ℕ) : Type 0 where
   pub count : ℕ
   pub within : count ≤ length bytes
   pub counted : taken ≡ capped (taken0 + count)
   pub stand : IsTrue tells → written ≡ written0 ++ take count bytes
 
--- what the ports and makers that were handed back did: their reads, the bytes they took, and the numbers they
--- retired and removed
+-- what the ports and makers that were handed back did: their reads, the bytes they took, and the
+-- numbers they retired and removed
 pub record Tally : Type 0 where
   pub reads : ℕ
   pub taken : ℕ
@@ -91,4 +94,5 @@ with_port reads tally = record tally { reads = capped (tally.reads + reads) }
 
 -- with the bytes and the numbers of one maker more
 abbrev pub with_maker : ℕ → Gone → Tally → Tally
-with_maker taken gone tally = record tally { taken = capped (tally.taken + taken); gone = joined tally.gone gone }
+with_maker taken gone tally =
+    record tally { taken = capped (tally.taken + taken); gone = joined tally.gone gone }

@@ -5,9 +5,9 @@ use Rattle.disk_model.specs.Tables.{Sealed, TableFiles, Tally, IsTableImage, no_
 use Rattle.disk_model.specs.declared.journal.Journal as journal
 use Rattle.disk_model.specs.declared.port.Port as port
 
--- What is told of a journal: the files as reads give them, what a crash at this moment may leave, the moment, what a
--- crash since each moment might have left, how often a call has failed, and a fact while which `size` and `read`
--- never fail.
+-- What is told of a journal: the files as reads give them, what a crash at this moment may leave,
+-- the moment, what a crash since each moment might have left, how often a call has failed, and a
+-- fact while which `size` and `read` never fail.
 pub record JournalTold : Type 1 where
   pub seen : Image
   pub may_leave : Image → Type 0
@@ -16,8 +16,9 @@ pub record JournalTold : Type 1 where
   pub faults : ℕ
   pub steady : Type 0
 
--- What is told of tables: the files that are there, the sealed tables that a crash leaves, what was done by the ports
--- and makers that were handed back, how often a call of these has failed, and a fact while which reads never fail.
+-- What is told of tables: the files that are there, the sealed tables that a crash leaves, what was
+-- done by the ports and makers that were handed back, how often a call of these has failed, and a
+-- fact while which reads never fail.
 pub record TablesTold : Type 1 where
   pub files : TableFiles
   pub kept : Sealed
@@ -45,7 +46,8 @@ pub record TellsTheSame (old new : JournalTold) : Type 0 where
   pub count : new.faults ≡ old.faults
   pub still_steady : old.steady → new.steady
 
--- the table files, what a crash leaves of them and what was done stay, and reads are steady where they were
+-- the table files, what a crash leaves of them and what was done stay, and reads are steady where
+-- they were
 pub record FilesStay (old new : TablesTold) : Type 0 where
   pub there : new.files ≡ old.files
   pub left : new.kept ≡ old.kept
@@ -67,8 +69,8 @@ after_port g port told = record told {
   faults = capped (told.faults + g.faults port);
 }
 
--- A crash may leave these table files: of the sealed tables what `IsTableImage` says; of those that were begun and not
--- sealed any or none, with whatever bytes, which are listed and not found.
+-- A crash may leave these table files: of the sealed tables what `IsTableImage` says; of those that
+-- were begun and not sealed any or none, with whatever bytes, which are listed and not found.
 pub record MayLeaveTables (told : TablesTold) (files : TableFiles) : Type 0 where
   pub sealed : IsTableImage told.kept told.tally.gone files.sealed
   pub unsealed : (n : ℕ) → IsTrue (files.is_unsealed n) → IsTrue (told.files.is_unsealed n)

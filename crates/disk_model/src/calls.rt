@@ -1,5 +1,5 @@
-// One call more on a journal in memory: it is kept, and what reads give is brought up to date. An `Err`
-// changes neither.
+// One call more on a journal in memory: it is kept, and what reads give is brought up to date. An
+// `Err` changes neither.
 ghost use Rattle.std.specs.Prelude.{◌≡◌, ◌+◌, ◌^◌, ◌<◌, ◌≤◌, ◌++◌, ◌∷◌, [], None, Some, length, OnOk, OnErr};
 ghost use Rattle.disk_model.specs.Images.{content, over};
 ghost use Rattle.disk_model.specs.Files.{image_of, changed};
@@ -20,9 +20,11 @@ pub fn add_write(
     bytes: &[u8],
 ) -> Result<(), AllocError>
     requires { at ≤ length (content (image_of files.old.items file)) }
-    ensures past { OnOk result ((v : _) × (v.items ≡ bytes.now) × (past.new.items ≡ past.old.items ++ Call.Write file at v ∷ [])) }
+    ensures past { OnOk result ((v : _) × (v.items ≡ bytes.now) × (past.new.items
+        ≡ past.old.items ++ Call.Write file at v ∷ [])) }
     ensures files { OnOk result (image_of files.new.items
-        ≡ changed file (Some (over (content (image_of files.old.items file)) at bytes.now)) (image_of files.old.items)) }
+        ≡ changed file (Some (over (content (image_of files.old.items file)) at bytes.now))
+        (image_of files.old.items)) }
     ensures fits { OnOk result (at + length bytes.now < 2 ^ 63) }
     ensures past_err { OnErr result (past.new.items ≡ past.old.items) }
     ensures files_err { OnErr result (image_of files.new.items ≡ image_of files.old.items) }
@@ -52,7 +54,8 @@ pub fn add_removal(
     file: JournalFile,
 ) -> Result<(), AllocError>
     ensures past { OnOk result (past.new.items ≡ past.old.items ++ Call.Remove file ∷ []) }
-    ensures files { OnOk result (image_of files.new.items ≡ changed file None (image_of files.old.items)) }
+    ensures files { OnOk result (image_of files.new.items
+        ≡ changed file None (image_of files.old.items)) }
     ensures past_err { OnErr result (past.new.items ≡ past.old.items) }
     ensures files_err { OnErr result (image_of files.new.items ≡ image_of files.old.items) }
 {

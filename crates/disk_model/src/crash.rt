@@ -22,8 +22,10 @@ fn part_of(
     draws: &mut Draws,
     bytes: &[u8],
 ) -> Result<Option<Vec<u8>>, AllocError>
-    ensures part { IfOk result (λ left. IfSome left (λ part. length part.items ≤ length bytes.now)) }
-    ensures new { pick ≡ New → IfOk result (λ left. IsSomeAnd left (λ part. part.items ≡ bytes.now)) }
+    ensures part { IfOk result (λ left. IfSome left (λ part.
+        length part.items ≤ length bytes.now)) }
+    ensures new { pick ≡ New →
+        IfOk result (λ left. IsSomeAnd left (λ part. part.items ≡ bytes.now)) }
     ensures old { pick ≡ Old → IfOk result (λ left. IsNone left) }
 {
     match pick {
@@ -52,9 +54,12 @@ fn leave_write(
     at: u64,
     bytes: &[u8],
 ) -> Result<(), AllocError>
-    ensures torn { OnOk result (In file (Tears at (length bytes.now)) (image_of left.old.items) (image_of left.new.items)) }
-    ensures new { pick ≡ New → at ≤ length (content (image_of left.old.items file)) → OnOk result (image_of left.new.items
-        ≡ changed file (Some (over (content (image_of left.old.items file)) at bytes.now)) (image_of left.old.items)) }
+    ensures torn { OnOk result (In file (Tears at (length bytes.now)) (image_of left.old.items)
+        (image_of left.new.items)) }
+    ensures new { pick ≡ New → at ≤ length (content (image_of left.old.items file)) →
+        OnOk result (image_of left.new.items
+        ≡ changed file (Some (over (content (image_of left.old.items file)) at bytes.now))
+        (image_of left.old.items)) }
     ensures old { pick ≡ Old → OnOk result (image_of left.new.items ≡ image_of left.old.items) }
 {
     let Some(part) = part_of(alloc, pick, draws, bytes)? else {
@@ -73,7 +78,8 @@ fn leave_sync(
     left: &mut Vec<Stored>,
     file: JournalFile,
 ) -> Result<(), AllocError>
-    ensures { OnOk result (image_of left.new.items ≡ changed file (image_of read.now file) (image_of left.old.items)) }
+    ensures { OnOk result (image_of left.new.items
+        ≡ changed file (image_of read.now file) (image_of left.old.items)) }
 {
     put(left, file, copy_bytes(alloc, get(read, file))?)
 }
@@ -113,9 +119,14 @@ pub fn leave(
     calls: &[Call],
 ) -> Result<Vec<Stored>, AllocError>
     requires { AreCalls (image_of first.items) (reverse calls.now) }
-    ensures left { IfOk result (λ left. IsLeft (image_of first.items) (reverse calls.now) (image_of left.items)) }
-    ensures new { pick ≡ New → IfOk result (λ left. image_of left.items ≡ read_after (image_of first.items) (reverse calls.now)) }
-    ensures old { pick ≡ Old → IfOk result (λ left. image_of left.items ≡ kept_after (image_of first.items) (reverse calls.now)) }
+    ensures left { IfOk result (λ left.
+        IsLeft (image_of first.items) (reverse calls.now) (image_of left.items)) }
+    ensures new { pick ≡ New →
+        IfOk result (λ left. image_of left.items
+        ≡ read_after (image_of first.items) (reverse calls.now)) }
+    ensures old { pick ≡ Old →
+        IfOk result (λ left. image_of left.items
+        ≡ kept_after (image_of first.items) (reverse calls.now)) }
 {
     let seed = match pick {
         Pick::Seeded(seed) => seed,

@@ -6,8 +6,8 @@ use crate::{Failed, TableHandle};
 
 /// The device that writes tables, one after another, and takes them away.
 ///
-/// A table is begun, written and sealed. A maker counts its faults and the bytes that it took, and is handed
-/// back to its devices, which then tell what it sealed.
+/// A table is begun, written and sealed. A maker counts its faults and the bytes that it took, and
+/// is handed back to its devices, which then tell what it sealed.
 pub trait Maker {
     type File: TableHandle;
 
@@ -31,7 +31,8 @@ pub trait Maker {
 
     /// Begins the table of this number, and drops what an earlier unsealed number held.
     ///
-    /// `Failed` comes only where the count of faults rose; then the earlier number is begun as before, or none.
+    /// `Failed` comes only where the count of faults rose; then the earlier number is begun as
+    /// before, or none.
     fn begin(&mut self, number: u64) -> Result<(), Failed>
         ensures begun { OnOk result (begun self.new ≡ Some number) }
         ensures empty { OnOk result (written self.new ≡ []) }
@@ -46,12 +47,14 @@ pub trait Maker {
 
     /// Writes `bytes` after those written since `begin`, and counts them as taken.
     ///
-    /// `Failed` comes only where the count of faults rose; then some first bytes were written, or none, and
-    /// those were counted.
+    /// `Failed` comes only where the count of faults rose; then some first bytes were written, or
+    /// none, and those were counted.
     fn write(&mut self, bytes: &[u8]) -> Result<(), Failed>
         requires { IsSome (begun self.old) }
-        ensures written { OnOk result (IsTrue Self.File.tells → written self.new ≡ written self.old ++ bytes.now) }
-        ensures counted { OnOk result (taken self.new ≡ capped (taken self.old + length bytes.now)) }
+        ensures written { OnOk result (IsTrue Self.File.tells →
+            written self.new ≡ written self.old ++ bytes.now) }
+        ensures counted { OnOk result (taken self.new
+            ≡ capped (taken self.old + length bytes.now)) }
         ensures in_part { OnErr result (TakesSome Self.File.tells bytes.now
             (taken self.old) (taken self.new) (written self.old) (written self.new)) }
         ensures undone { OnErr result (IsTrue Self.File.is_atomic →
@@ -65,16 +68,18 @@ pub trait Maker {
     fn taken(&self) -> u64
         ensures { result ≡ taken self.now };
 
-    /// Makes the table durable, and gives a handle of it: from then on a crash leaves it with its bytes until
-    /// it is retired or removed. No number is begun then.
+    /// Makes the table durable, and gives a handle of it: from then on a crash leaves it with its
+    /// bytes until it is retired or removed. No number is begun then.
     ///
     /// `Failed` comes only where the count of faults rose, and leaves the number begun.
     fn seal(&mut self) -> Result<Self::File, Failed>
         requires { IsSome (begun self.old) }
         ensures number { IfOk result (λ file. begun self.old ≡ Some (Self.File.number file)) }
-        ensures bytes { IfOk result (λ file. IsTrue Self.File.tells → Self.File.bytes file ≡ written self.old) }
+        ensures bytes { IfOk result (λ file. IsTrue Self.File.tells →
+            Self.File.bytes file ≡ written self.old) }
         ensures sealed { IfOk result (λ file. IsTrue Self.File.tells →
-            sealed self.new ≡ with_table (Self.File.number file) (written self.old) (sealed self.old)) }
+            sealed self.new ≡ with_table (Self.File.number file) (written self.old)
+            (sealed self.old)) }
         ensures ended { OnOk result (begun self.new ≡ None) }
         ensures begun { OnErr result (begun self.new ≡ begun self.old) }
         ensures written { OnErr result (written self.new ≡ written self.old) }
@@ -85,9 +90,11 @@ pub trait Maker {
 
     /// Retires a table: its file goes when no handle of it is left.
     ///
-    /// `Failed` comes only where the count of faults rose; then the number was counted as retired, or not.
+    /// `Failed` comes only where the count of faults rose; then the number was counted as retired,
+    /// or not.
     fn retire(&mut self, file: &Self::File) -> Result<(), Failed>
-        ensures retired { OnOk result (gone self.new ≡ with_retired (Self.File.number file.now) (gone self.old)) }
+        ensures retired { OnOk result (gone self.new
+            ≡ with_retired (Self.File.number file.now) (gone self.old)) }
         ensures perhaps { OnErr result ((gone self.new ≡ gone self.old)
             ⊎ (gone self.new ≡ with_retired (Self.File.number file.now) (gone self.old))) }
         ensures undone { OnErr result (IsTrue Self.File.is_atomic → gone self.new ≡ gone self.old) }
@@ -97,9 +104,11 @@ pub trait Maker {
         ensures taken { taken self.new ≡ taken self.old }
         ensures cause { HasCause (faults self.old) (faults self.new) result };
 
-    /// Takes away the file of a table of which there is no handle. An absent file is none the less Ok.
+    /// Takes away the file of a table of which there is no handle. An absent file is none the less
+    /// Ok.
     ///
-    /// `Failed` comes only where the count of faults rose; then the number was counted as removed, or not.
+    /// `Failed` comes only where the count of faults rose; then the number was counted as removed,
+    /// or not.
     fn remove(&mut self, number: u64) -> Result<(), Failed>
         ensures removed { OnOk result (gone self.new ≡ with_removed number (gone self.old)) }
         ensures perhaps { OnErr result ((gone self.new ≡ gone self.old)

@@ -44,17 +44,27 @@ impl MemDevices {
     ///
     /// Memory is the one refusal.
     pub fn new(alloc: Global, plans: Plans) -> Result<MemDevices, Memory>
-        ensures empty { IfOk result (λ devices. (⟦<MemDevices as Devices>⟧.journal_told devices).seen ≡ (λ _. None)) }
+        // what it gives
+        ensures empty { IfOk result (λ devices.
+            (⟦<MemDevices as Devices>⟧.journal_told devices).seen ≡ (λ _. None)) }
         ensures rests { IfOk result (λ devices.
-            IsAtRest (⟦<MemDevices as Devices>⟧.journal_told devices).seen (⟦<MemDevices as Devices>⟧.journal_told devices).may_leave) }
-        ensures count { IfOk result (λ devices. (⟦<MemDevices as Devices>⟧.journal_told devices).faults ≡ 0) }
+            IsAtRest (⟦<MemDevices as Devices>⟧.journal_told devices).seen
+            (⟦<MemDevices as Devices>⟧.journal_told devices).may_leave) }
+        ensures count { IfOk result (λ devices.
+            (⟦<MemDevices as Devices>⟧.journal_told devices).faults ≡ 0) }
         ensures faults { IfOk result (λ devices. ⟦<MemDevices as Devices>⟧.faults devices ≡ 0) }
-        ensures steady { IsEmptyPlan plans.journal → IfOk result (λ devices. (⟦<MemDevices as Devices>⟧.journal_told devices).steady) }
-        ensures no_tables { IfOk result (λ devices. (n : ℕ) → is_listed (⟦<MemDevices as Devices>⟧.tables_told devices).files n ≡ false) }
-        ensures tables_rest { IfOk result (λ devices. TablesRest (⟦<MemDevices as Devices>⟧.tables_told devices)) }
-        ensures table_faults { IfOk result (λ devices. (⟦<MemDevices as Devices>⟧.tables_told devices).faults ≡ 0) }
-        ensures ports_steady { IsEmptyPlan plans.port → IfOk result (λ devices. (⟦<MemDevices as Devices>⟧.tables_told devices).steady) }
-        ensures directories { IfOk result (λ devices. ⟦<MemDevices as Devices>⟧.directories devices ≡ no_directories) }
+        ensures steady { IsEmptyPlan plans.journal →
+            IfOk result (λ devices. (⟦<MemDevices as Devices>⟧.journal_told devices).steady) }
+        ensures no_tables { IfOk result (λ devices. (n : ℕ) →
+            is_listed (⟦<MemDevices as Devices>⟧.tables_told devices).files n ≡ false) }
+        ensures tables_rest { IfOk result (λ devices.
+            TablesRest (⟦<MemDevices as Devices>⟧.tables_told devices)) }
+        ensures table_faults { IfOk result (λ devices.
+            (⟦<MemDevices as Devices>⟧.tables_told devices).faults ≡ 0) }
+        ensures ports_steady { IsEmptyPlan plans.port →
+            IfOk result (λ devices. (⟦<MemDevices as Devices>⟧.tables_told devices).steady) }
+        ensures directories { IfOk result (λ devices.
+            ⟦<MemDevices as Devices>⟧.directories devices ≡ no_directories) }
         ensures plans { IfOk result (λ devices. plans_of devices ≡ plans) }
     {
         let journal = MemJournal::new(alloc, plans.journal);
@@ -66,37 +76,56 @@ impl MemDevices {
             ports,
             makers,
             stock: Stock::resting(PortTables::none(alloc)),
-            directories: Directories::none(),
+            directories: Directories::none(alloc),
             faults: 0,
         })
     }
 
-    /// The devices after a crash: they hold one image that the crash may leave, and no call of them fails by
-    /// a plan, and no directory is chosen yet. `Old` takes of each file what its last sync or removal left, and each table that was retired or
-    /// removed, and no table that was begun and not sealed; `New` takes what is there. `Seeded` draws for each number
-    /// whether what was done with its table's file stands. A table that is left unsealed is listed and not found.
+    /// The devices after a crash: they hold one image that the crash may leave, and no call of them
+    /// fails by a plan, and no directory is chosen yet. `Old` takes of each file what its last sync
+    /// or removal left, and each table that was retired or removed, and no table that was begun and
+    /// not sealed; `New` takes what is there. `Seeded` draws for each number whether what was done
+    /// with its table's file stands. A table that is left unsealed is listed and not found.
     ///
     /// Memory is the one refusal; the devices are then gone.
     pub fn crash(self, pick: Pick) -> Result<MemDevices, Memory>
-        ensures allowed { IfOk result (λ after. (⟦<MemDevices as Devices>⟧.journal_told self).may_leave (⟦<MemDevices as Devices>⟧.journal_told after).seen) }
-        ensures old { pick ≡ Old → IfOk result (λ after. (⟦<MemDevices as Devices>⟧.journal_told after).seen ≡ synced_of self) }
+        // what it gives
+        ensures allowed { IfOk result (λ after.
+            (⟦<MemDevices as Devices>⟧.journal_told self).may_leave
+            (⟦<MemDevices as Devices>⟧.journal_told after).seen) }
+        ensures old { pick ≡ Old →
+            IfOk result (λ after. (⟦<MemDevices as Devices>⟧.journal_told after).seen
+            ≡ synced_of self) }
         ensures new { pick ≡ New →
-            IfOk result (λ after. (⟦<MemDevices as Devices>⟧.journal_told after).seen ≡ (⟦<MemDevices as Devices>⟧.journal_told self).seen) }
+            IfOk result (λ after. (⟦<MemDevices as Devices>⟧.journal_told after).seen
+            ≡ (⟦<MemDevices as Devices>⟧.journal_told self).seen) }
         ensures rests { IfOk result (λ after.
-            IsAtRest (⟦<MemDevices as Devices>⟧.journal_told after).seen (⟦<MemDevices as Devices>⟧.journal_told after).may_leave) }
-        ensures count { IfOk result (λ after. (⟦<MemDevices as Devices>⟧.journal_told after).faults ≡ 0) }
+            IsAtRest (⟦<MemDevices as Devices>⟧.journal_told after).seen
+            (⟦<MemDevices as Devices>⟧.journal_told after).may_leave) }
+        ensures count { IfOk result (λ after.
+            (⟦<MemDevices as Devices>⟧.journal_told after).faults ≡ 0) }
         ensures faults { IfOk result (λ after. ⟦<MemDevices as Devices>⟧.faults after ≡ 0) }
-        ensures steady { IfOk result (λ after. (⟦<MemDevices as Devices>⟧.journal_told after).steady) }
-        ensures tables { IfOk result (λ after. MayLeaveTables (⟦<MemDevices as Devices>⟧.tables_told self) (⟦<MemDevices as Devices>⟧.tables_told after).files) }
+        ensures steady { IfOk result (λ after.
+            (⟦<MemDevices as Devices>⟧.journal_told after).steady) }
+        ensures tables { IfOk result (λ after.
+            MayLeaveTables (⟦<MemDevices as Devices>⟧.tables_told self)
+            (⟦<MemDevices as Devices>⟧.tables_told after).files) }
         ensures old_tables { pick ≡ Old → IfOk result (λ after. (n : ℕ) →
-            (⟦<MemDevices as Devices>⟧.tables_told after).files.sealed n ≡ (⟦<MemDevices as Devices>⟧.tables_told self).kept n) }
+            (⟦<MemDevices as Devices>⟧.tables_told after).files.sealed n
+            ≡ (⟦<MemDevices as Devices>⟧.tables_told self).kept n) }
         ensures old_unsealed { pick ≡ Old → IfOk result (λ after. (n : ℕ) →
             (⟦<MemDevices as Devices>⟧.tables_told after).files.is_unsealed n ≡ false) }
-        ensures new_tables { pick ≡ New → IfOk result (λ after. (⟦<MemDevices as Devices>⟧.tables_told after).files ≡ (⟦<MemDevices as Devices>⟧.tables_told self).files) }
-        ensures tables_rest { IfOk result (λ after. TablesRest (⟦<MemDevices as Devices>⟧.tables_told after)) }
-        ensures table_faults { IfOk result (λ after. (⟦<MemDevices as Devices>⟧.tables_told after).faults ≡ 0) }
-        ensures ports_steady { IfOk result (λ after. (⟦<MemDevices as Devices>⟧.tables_told after).steady) }
-        ensures directories { IfOk result (λ after. ⟦<MemDevices as Devices>⟧.directories after ≡ no_directories) }
+        ensures new_tables { pick ≡ New →
+            IfOk result (λ after. (⟦<MemDevices as Devices>⟧.tables_told after).files
+            ≡ (⟦<MemDevices as Devices>⟧.tables_told self).files) }
+        ensures tables_rest { IfOk result (λ after.
+            TablesRest (⟦<MemDevices as Devices>⟧.tables_told after)) }
+        ensures table_faults { IfOk result (λ after.
+            (⟦<MemDevices as Devices>⟧.tables_told after).faults ≡ 0) }
+        ensures ports_steady { IfOk result (λ after.
+            (⟦<MemDevices as Devices>⟧.tables_told after).steady) }
+        ensures directories { IfOk result (λ after. ⟦<MemDevices as Devices>⟧.directories after
+            ≡ no_directories) }
         ensures plans { IfOk result (λ after. AreEmptyPlans (plans_of after)) }
     {
         let alloc = self.alloc;
@@ -107,26 +136,34 @@ impl MemDevices {
             ports: Arc::new(alloc, KindTurns::new(FailPlan::empty(alloc)))?,
             makers: Arc::new(alloc, KindTurns::new(FailPlan::empty(alloc)))?,
             stock: Stock::resting(tables),
-            directories: Directories::none(),
+            directories: Directories::none(alloc),
             faults: 0,
         })
     }
 
-    /// The devices that rest on their files of the journal with `bytes` in place of one file's, as a damaged disk
-    /// would. What they tell of tables stays.
+    /// The devices that rest on their files of the journal with `bytes` in place of one file's, as
+    /// a damaged disk would. What they tell of tables stays.
     ///
-    /// The plans stay, and the journal's counts begin again. Memory is the one refusal; the devices are then gone.
+    /// The plans stay, and the journal's counts begin again. Memory is the one refusal; the devices
+    /// are then gone.
     pub fn with_file(self, file: JournalFile, bytes: &[u8]) -> Result<MemDevices, Memory>
-        ensures seen { IfOk result (λ after.
-            (⟦<MemDevices as Devices>⟧.journal_told after).seen ≡ changed file (Some bytes.now) ((⟦<MemDevices as Devices>⟧.journal_told self).seen)) }
+        // what it gives
+        ensures seen { IfOk result (λ after. (⟦<MemDevices as Devices>⟧.journal_told after).seen
+            ≡ changed file (Some bytes.now) ((⟦<MemDevices as Devices>⟧.journal_told self).seen)) }
         ensures rests { IfOk result (λ after.
-            IsAtRest (⟦<MemDevices as Devices>⟧.journal_told after).seen (⟦<MemDevices as Devices>⟧.journal_told after).may_leave) }
-        ensures count { IfOk result (λ after. (⟦<MemDevices as Devices>⟧.journal_told after).faults ≡ 0) }
+            IsAtRest (⟦<MemDevices as Devices>⟧.journal_told after).seen
+            (⟦<MemDevices as Devices>⟧.journal_told after).may_leave) }
+        ensures count { IfOk result (λ after.
+            (⟦<MemDevices as Devices>⟧.journal_told after).faults ≡ 0) }
         ensures faults { IfOk result (λ after. ⟦<MemDevices as Devices>⟧.faults after ≡ 0) }
-        ensures steady { (⟦<MemDevices as Devices>⟧.journal_told self).steady → IfOk result (λ after. (⟦<MemDevices as Devices>⟧.journal_told after).steady) }
+        ensures steady { (⟦<MemDevices as Devices>⟧.journal_told self).steady →
+            IfOk result (λ after. (⟦<MemDevices as Devices>⟧.journal_told after).steady) }
+        // what stays
         ensures tables { IfOk result (λ after.
-            TablesStay (⟦<MemDevices as Devices>⟧.tables_told self) (⟦<MemDevices as Devices>⟧.tables_told after)) }
-        ensures directories { IfOk result (λ after. ⟦<MemDevices as Devices>⟧.directories after ≡ ⟦<MemDevices as Devices>⟧.directories self) }
+            TablesStay (⟦<MemDevices as Devices>⟧.tables_told self)
+            (⟦<MemDevices as Devices>⟧.tables_told after)) }
+        ensures directories { IfOk result (λ after. ⟦<MemDevices as Devices>⟧.directories after
+            ≡ ⟦<MemDevices as Devices>⟧.directories self) }
         ensures plans { IfOk result (λ after. plans_of after ≡ plans_of self) }
     {
         Ok(MemDevices {
@@ -136,24 +173,34 @@ impl MemDevices {
         })
     }
 
-    /// The devices that rest on their tables with a sealed one of these bytes in place of any of its number, as a
-    /// damaged disk would. What they tell of the journal stays.
+    /// The devices that rest on their tables with a sealed one of these bytes in place of any of
+    /// its number, as a damaged disk would. What they tell of the journal stays.
     ///
-    /// The plans stay, and the counts of ports and makers begin again. Memory is the one refusal; the devices are
-    /// then gone.
+    /// The plans stay, and the counts of ports and makers begin again. Memory is the one refusal;
+    /// the devices are then gone.
     pub fn with_table(self, number: u64, bytes: &[u8]) -> Result<MemDevices, Memory>
-        ensures sealed { IfOk result (λ after. (n : ℕ) → (⟦<MemDevices as Devices>⟧.tables_told after).files.sealed n
-            ≡ with_table number bytes.now (⟦<MemDevices as Devices>⟧.tables_told self).files.sealed n) }
-        ensures unsealed { IfOk result (λ after. (n : ℕ) → (⟦<MemDevices as Devices>⟧.tables_told after).files.is_unsealed n
+        // what it gives
+        ensures sealed { IfOk result (λ after. (n : ℕ) →
+            (⟦<MemDevices as Devices>⟧.tables_told after).files.sealed n
+            ≡ with_table number bytes.now
+            (⟦<MemDevices as Devices>⟧.tables_told self).files.sealed n) }
+        ensures unsealed { IfOk result (λ after. (n : ℕ) →
+            (⟦<MemDevices as Devices>⟧.tables_told after).files.is_unsealed n
             ≡ (⟦<MemDevices as Devices>⟧.tables_told self).files.is_unsealed n) }
-        ensures rests { IfOk result (λ after. TablesRest (⟦<MemDevices as Devices>⟧.tables_told after)) }
-        ensures table_faults { IfOk result (λ after. (⟦<MemDevices as Devices>⟧.tables_told after).faults ≡ 0) }
+        ensures rests { IfOk result (λ after.
+            TablesRest (⟦<MemDevices as Devices>⟧.tables_told after)) }
+        ensures table_faults { IfOk result (λ after.
+            (⟦<MemDevices as Devices>⟧.tables_told after).faults ≡ 0) }
         ensures ports_steady { (⟦<MemDevices as Devices>⟧.tables_told self).steady →
             IfOk result (λ after. (⟦<MemDevices as Devices>⟧.tables_told after).steady) }
+        // what stays
         ensures told { IfOk result (λ after.
-            TellsTheSame (⟦<MemDevices as Devices>⟧.journal_told self) (⟦<MemDevices as Devices>⟧.journal_told after)) }
-        ensures faults { IfOk result (λ after. ⟦<MemDevices as Devices>⟧.faults after ≡ ⟦<MemDevices as Devices>⟧.faults self) }
-        ensures directories { IfOk result (λ after. ⟦<MemDevices as Devices>⟧.directories after ≡ ⟦<MemDevices as Devices>⟧.directories self) }
+            TellsTheSame (⟦<MemDevices as Devices>⟧.journal_told self)
+            (⟦<MemDevices as Devices>⟧.journal_told after)) }
+        ensures faults { IfOk result (λ after. ⟦<MemDevices as Devices>⟧.faults after
+            ≡ ⟦<MemDevices as Devices>⟧.faults self) }
+        ensures directories { IfOk result (λ after. ⟦<MemDevices as Devices>⟧.directories after
+            ≡ ⟦<MemDevices as Devices>⟧.directories self) }
         ensures plans { IfOk result (λ after. plans_of after ≡ plans_of self) }
     {
         let mut tables = self.stock.shelf.leave(self.alloc, Pick::New)?;
@@ -167,14 +214,16 @@ impl MemDevices {
 
     /// The file's bytes as reads give them, or `None` where it isn't there.
     pub fn bytes_of(&self, file: JournalFile) -> Option<&[u8]>
-        ensures { option_copied result ≡ (⟦<MemDevices as Devices>⟧.journal_told self.now).seen file }
+        ensures { option_copied result
+            ≡ (⟦<MemDevices as Devices>⟧.journal_told self.now).seen file }
     {
         self.journal.bytes_of(file)
     }
 
     /// The bytes of the sealed table of this number, or `None` where it isn't there.
     pub fn table_bytes(&self, number: u64) -> Option<&[u8]>
-        ensures { option_copied result ≡ (⟦<MemDevices as Devices>⟧.tables_told self.now).files.sealed number }
+        ensures { option_copied result
+            ≡ (⟦<MemDevices as Devices>⟧.tables_told self.now).files.sealed number }
     {
         if self.stock.shelf.has_lost(number) {
             return None;
@@ -187,7 +236,8 @@ impl MemDevices {
 
     /// A port over the table files that are there.
     fn make_port(&self) -> Result<MemPort, AllocError>
-        ensures { IfOk result (λ port. IsNewPort ⟦<MemPort as Port>⟧ (⟦<MemDevices as Devices>⟧.tables_told self.now) port) }
+        ensures { IfOk result (λ port.
+            IsNewPort ⟦<MemPort as Port>⟧ (⟦<MemDevices as Devices>⟧.tables_told self.now) port) }
     {
         let files = self.stock.shelf.leave(self.alloc, Pick::New)?;
         let tables = Arc::new(self.alloc, files)?;

@@ -43,7 +43,8 @@ fn size_in(files: &[Stored], file: JournalFile) -> Option<u64>
 
 fn read_in(files: &[Stored], file: JournalFile, at: u64, out: &mut [u8]) -> usize
     ensures count { result ≤ length out.old }
-    ensures read { take result out.new ≡ take (length out.old) (drop at (content (image_of files.now file))) }
+    ensures read { take result out.new
+        ≡ take (length out.old) (drop at (content (image_of files.now file))) }
 {
     match get(files, file) {
         Some(bytes) => copy_from(bytes, at, out),
@@ -120,7 +121,8 @@ impl MemJournal {
     /// A journal with no file.
     pub fn new(alloc: Global, plan: FailPlan) -> MemJournal
         ensures empty { ⟦<MemJournal as Journal>⟧.seen result ≡ (λ _. None) }
-        ensures rests { IsAtRest (⟦<MemJournal as Journal>⟧.seen result) (⟦<MemJournal as Journal>⟧.may_leave result) }
+        ensures rests { IsAtRest (⟦<MemJournal as Journal>⟧.seen result)
+            (⟦<MemJournal as Journal>⟧.may_leave result) }
         ensures faults { ⟦<MemJournal as Journal>⟧.faults result ≡ 0 }
         ensures plan { journal_plan result ≡ plan }
     {
@@ -135,8 +137,11 @@ impl MemJournal {
 
     /// A journal that rests on these files.
     fn resting(alloc: Global, plan: FailPlan, first: Vec<Stored>) -> Result<MemJournal, AllocError>
-        ensures seen { IfOk result (λ journal. ⟦<MemJournal as Journal>⟧.seen journal ≡ image_of first.items) }
-        ensures rests { IfOk result (λ journal. IsAtRest (⟦<MemJournal as Journal>⟧.seen journal) (⟦<MemJournal as Journal>⟧.may_leave journal)) }
+        ensures seen { IfOk result (λ journal. ⟦<MemJournal as Journal>⟧.seen journal
+            ≡ image_of first.items) }
+        ensures rests { IfOk result (λ journal.
+            IsAtRest (⟦<MemJournal as Journal>⟧.seen journal)
+            (⟦<MemJournal as Journal>⟧.may_leave journal)) }
         ensures faults { IfOk result (λ journal. ⟦<MemJournal as Journal>⟧.faults journal ≡ 0) }
         ensures plan { IfOk result (λ journal. journal_plan journal ≡ plan) }
     {
@@ -152,10 +157,17 @@ impl MemJournal {
 
     /// The journal after a crash, which rests on one of the images that the crash may leave.
     pub fn crash(self, pick: Pick) -> Result<MemJournal, AllocError>
-        ensures allowed { IfOk result (λ after. ⟦<MemJournal as Journal>⟧.may_leave self (⟦<MemJournal as Journal>⟧.seen after)) }
-        ensures old { pick ≡ Old → IfOk result (λ after. ⟦<MemJournal as Journal>⟧.seen after ≡ kept_after (image_of self.first.items) (reverse self.past.items)) }
-        ensures new { pick ≡ New → IfOk result (λ after. ⟦<MemJournal as Journal>⟧.seen after ≡ ⟦<MemJournal as Journal>⟧.seen self) }
-        ensures rests { IfOk result (λ after. IsAtRest (⟦<MemJournal as Journal>⟧.seen after) (⟦<MemJournal as Journal>⟧.may_leave after)) }
+        ensures allowed { IfOk result (λ after.
+            ⟦<MemJournal as Journal>⟧.may_leave self (⟦<MemJournal as Journal>⟧.seen after)) }
+        ensures old { pick ≡ Old →
+            IfOk result (λ after. ⟦<MemJournal as Journal>⟧.seen after
+            ≡ kept_after (image_of self.first.items) (reverse self.past.items)) }
+        ensures new { pick ≡ New →
+            IfOk result (λ after. ⟦<MemJournal as Journal>⟧.seen after
+            ≡ ⟦<MemJournal as Journal>⟧.seen self) }
+        ensures rests { IfOk result (λ after.
+            IsAtRest (⟦<MemJournal as Journal>⟧.seen after)
+            (⟦<MemJournal as Journal>⟧.may_leave after)) }
         ensures faults { IfOk result (λ after. ⟦<MemJournal as Journal>⟧.faults after ≡ 0) }
         ensures plan { IfOk result (λ after. IsEmptyPlan (journal_plan after)) }
     {
@@ -172,9 +184,11 @@ impl MemJournal {
 
     /// The journal that rests on the files with these bytes in place of one file's.
     pub fn with_file(self, file: JournalFile, bytes: &[u8]) -> Result<MemJournal, AllocError>
-        ensures seen { IfOk result (λ after.
-            ⟦<MemJournal as Journal>⟧.seen after ≡ changed file (Some bytes.now) (⟦<MemJournal as Journal>⟧.seen self)) }
-        ensures rests { IfOk result (λ after. IsAtRest (⟦<MemJournal as Journal>⟧.seen after) (⟦<MemJournal as Journal>⟧.may_leave after)) }
+        ensures seen { IfOk result (λ after. ⟦<MemJournal as Journal>⟧.seen after
+            ≡ changed file (Some bytes.now) (⟦<MemJournal as Journal>⟧.seen self)) }
+        ensures rests { IfOk result (λ after.
+            IsAtRest (⟦<MemJournal as Journal>⟧.seen after)
+            (⟦<MemJournal as Journal>⟧.may_leave after)) }
         ensures faults { IfOk result (λ after. ⟦<MemJournal as Journal>⟧.faults after ≡ 0) }
         ensures plan { IfOk result (λ after. journal_plan after ≡ journal_plan self) }
     {

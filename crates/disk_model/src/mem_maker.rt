@@ -12,7 +12,8 @@ use crate::{Failed, Maker, MemTableFile};
 use std::alloc::{AllocError, Global};
 use std::sync::Arc;
 
-/// A maker in memory. It tells what it writes and seals, and fails by the plan of all makers of its devices.
+/// A maker in memory. It tells what it writes and seals, and fails by the plan of all makers of its
+/// devices.
 #[derive(Drop)]
 pub struct MemMaker {
     pub(crate) alloc: Global,

@@ -14,7 +14,8 @@ use peb_base::Memory;
 use std::alloc::{AllocError, Global};
 use std::sync::Arc;
 
-/// A port in memory. It tells the tables that it reads, and fails by the plan of all ports of its devices.
+/// A port in memory. It tells the tables that it reads, and fails by the plan of all ports of its
+/// devices.
 #[derive(Drop)]
 pub struct MemPort {
     alloc: Global,
@@ -27,7 +28,8 @@ pub struct MemPort {
 /// A further handle of the table of this number, if it is among these.
 fn shared(tables: &[MemTableFile], number: u64) -> Result<Option<MemTableFile>, AllocError>
     ensures number { IfOk result (λ found. IfSome found (λ table. table.number ≡ number)) }
-    ensures bytes { IfOk result (λ found. option_map table_bytes found ≡ table_in tables.now number) }
+    ensures bytes { IfOk result (λ found.
+        option_map table_bytes found ≡ table_in tables.now number) }
 {
     match table_of(tables, number) {
         Some(table) => Ok(Some(table.share()?)),

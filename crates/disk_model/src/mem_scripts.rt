@@ -9,7 +9,8 @@ use crate::{FailPlan, Failed, Scripts};
 use peb_base::Memory;
 use std::alloc::Global;
 
-/// Scripts in memory, for tests. A call that asks for a name that isn't there fails, as do those of the plan.
+/// Scripts in memory, for tests. A call that asks for a name that isn't there fails, as do those of
+/// the plan.
 #[derive(Drop)]
 pub struct MemScripts {
     alloc: Global,
@@ -49,10 +50,13 @@ impl MemScripts {
     ///
     /// Memory is the one refusal; the scripts are then gone.
     pub fn with(self, name: &str, text: &[u8]) -> Result<MemScripts, Memory>
-        ensures this { IfOk result (λ after. ⟦<MemScripts as Scripts>⟧.text after name.now ≡ Some text.now) }
+        ensures this { IfOk result (λ after. ⟦<MemScripts as Scripts>⟧.text after name.now
+            ≡ Some text.now) }
         ensures others { IfOk result (λ after. (other : List ℕ) → other ≢ name.now →
-            ⟦<MemScripts as Scripts>⟧.text after other ≡ ⟦<MemScripts as Scripts>⟧.text self other) }
-        ensures faults { IfOk result (λ after. ⟦<MemScripts as Scripts>⟧.faults after ≡ ⟦<MemScripts as Scripts>⟧.faults self) }
+            ⟦<MemScripts as Scripts>⟧.text after other
+            ≡ ⟦<MemScripts as Scripts>⟧.text self other) }
+        ensures faults { IfOk result (λ after. ⟦<MemScripts as Scripts>⟧.faults after
+            ≡ ⟦<MemScripts as Scripts>⟧.faults self) }
     {
         let mut scripts = self.scripts;
         let name = String::from_str(self.alloc, name)?;

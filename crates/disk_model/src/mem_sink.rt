@@ -2,7 +2,8 @@ use crate::returned::Returned;
 use crate::taken::Taken;
 use crate::{Failed, Label, Sink};
 
-/// The sink of one client in memory. It brings the place in which it is kept once it is handed back.
+/// The sink of one client in memory. It brings the place in which it is kept once it is handed
+/// back.
 #[derive(Drop)]
 pub struct MemSink {
     pub taken: Taken,

@@ -77,7 +77,8 @@ impl MemSinks {
 
     /// The name of the sink that was handed back for client `index`, or `None` where none was.
     pub fn name_of(&self, index: u32) -> Option<&str>
-        ensures { option_copied result ≡ name_of ((⟦<MemSinks as Sinks>⟧.names self.now).returned index) }
+        ensures { option_copied result
+            ≡ name_of ((⟦<MemSinks as Sinks>⟧.names self.now).returned index) }
     {
         self.returned.name_of(index)
     }

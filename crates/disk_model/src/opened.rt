@@ -1,8 +1,10 @@
-/// The directory whose journal was handed out last: the one that was chosen last, or another one, if any.
+/// Of which directory the journal was handed out last: of none, of the one that was chosen last, or
+/// of an earlier one.
 ///
 /// So handing out a journal copies no name.
-#[derive(Drop)]
+#[derive(Clone, Copy)]
 pub enum Opened {
+    Nothing,
     Chosen,
-    Other(Option<String>),
+    Earlier,
 }

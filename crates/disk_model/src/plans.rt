@@ -3,8 +3,8 @@ ghost use Rattle.disk_model.specs.Plans.{IsEmptyPlan};
 use crate::FailPlan;
 use std::alloc::Global;
 
-/// The plans of the devices in memory, one for each kind of object. All objects of a kind share its plan and
-/// its count of calls.
+/// The plans of the devices in memory, one for each kind of object. All objects of a kind share its
+/// plan and its count of calls.
 #[derive(Drop)]
 pub struct Plans {
     pub journal: FailPlan,

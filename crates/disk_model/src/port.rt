@@ -9,8 +9,8 @@ use peb_base::Memory;
 
 /// The device that reads sealed tables.
 ///
-/// It finds those that were sealed when it was made. A port counts its faults and its reads, and is joined to
-/// another or handed back to its devices, so that the counts are kept.
+/// It finds those that were sealed when it was made. A port counts its faults and its reads, and is
+/// joined to another or handed back to its devices, so that the counts are kept.
 pub trait Port {
     type File: TableHandle;
 
@@ -26,13 +26,14 @@ pub trait Port {
     /// While it holds, `read` never fails. It need never hold.
     ghost steady: { Self → Type 0 };
 
-    /// A handle of the table of this number, or `None` exactly where no table of it was sealed when the port
-    /// was made.
+    /// A handle of the table of this number, or `None` exactly where no table of it was sealed when
+    /// the port was made.
     ///
     /// `Failed` comes only where the count of faults rose.
     fn find(&mut self, number: u64) -> Result<Option<Self::File>, Failed>
         // what it gives
-        ensures number { IfOk result (λ found. IfSome found (λ file. Self.File.number file ≡ number)) }
+        ensures number { IfOk result (λ found. IfSome found (λ file.
+            Self.File.number file ≡ number)) }
         ensures bytes { IfOk result (λ found. IsTrue Self.File.tells →
             option_map Self.File.bytes found ≡ (table_files self.old).sealed number) }
         // when it fails
@@ -42,8 +43,8 @@ pub trait Port {
         ensures reads { reads self.new ≡ reads self.old }
         ensures steady { steady self.old → steady self.new };
 
-    /// The numbers of all table files that were there when the port was made, ascending: of those that were
-    /// sealed, and of those that were begun and not sealed.
+    /// The numbers of all table files that were there when the port was made, ascending: of those
+    /// that were sealed, and of those that were begun and not sealed.
     ///
     /// `ListFault::Failed` comes only where the count of faults rose.
     fn list(&mut self) -> Result<Vec<u64>, ListFault>
@@ -52,7 +53,8 @@ pub trait Port {
         ensures numbers { IfOk result (λ numbers. IsTrue Self.File.tells →
             Lists (table_files self.old) numbers.items) }
         // when it fails
-        ensures cause { RoseWhere (result ≡ Err ListFault.Failed) (faults self.old) (faults self.new) }
+        ensures cause { RoseWhere (result
+            ≡ Err ListFault.Failed) (faults self.old) (faults self.new) }
         // what stays
         ensures files { table_files self.new ≡ table_files self.old }
         ensures reads { reads self.new ≡ reads self.old }
@@ -60,8 +62,8 @@ pub trait Port {
 
     /// Copies the table's bytes from place `at` on to the front of `out`, and gives their count.
     ///
-    /// It is less than the length of `out` exactly where the table ends before. `Failed` comes only where the
-    /// count of faults rose. A call is at most one read, and one at Ok.
+    /// It is less than the length of `out` exactly where the table ends before. `Failed` comes only
+    /// where the count of faults rose. A call is at most one read, and one at Ok.
     fn read(&mut self, file: &Self::File, at: u64, out: &mut [u8]) -> Result<usize, Failed>
         // what it gives
         ensures count { IfOk result (λ n. n ≤ length out.old) }
@@ -71,14 +73,16 @@ pub trait Port {
         ensures counted { OnOk result (reads self.new ≡ capped (reads self.old + 1)) }
         ensures no_fewer { reads self.old ≤ reads self.new }
         ensures once { reads self.new ≤ reads self.old + 1 }
-        ensures undone { OnErr result (IsTrue Self.File.is_atomic → reads self.new ≡ reads self.old) }
+        ensures undone { OnErr result (IsTrue Self.File.is_atomic →
+            reads self.new ≡ reads self.old) }
         // when it fails
         ensures cause { HasCause (faults self.old) (faults self.new) result }
         ensures steady { steady self.old → IsOk result × steady self.new }
         // what stays
         ensures files { table_files self.new ≡ table_files self.old };
 
-    /// A port on the same tables, with counts of 0. It is joined when it is done. Memory is the one refusal.
+    /// A port on the same tables, with counts of 0. It is joined when it is done. Memory is the one
+    /// refusal.
     fn fork(&mut self) -> Result<Self, Memory>
         // what it gives
         ensures same { IfOk result (λ fork. table_files fork ≡ table_files self.old) }

@@ -7,8 +7,8 @@ use crate::MemTableFile;
 use crate::numbers::ascending;
 use std::alloc::{AllocError, Global};
 
-/// The table files that a port in memory reads: the sealed ones, of which the first of a number counts, and the
-/// numbers of those that aren't sealed.
+/// The table files that a port in memory reads: the sealed ones, of which the first of a number
+/// counts, and the numbers of those that aren't sealed.
 #[derive(Drop)]
 pub struct PortTables {
     pub sealed: Vec<MemTableFile>,
@@ -17,7 +17,8 @@ pub struct PortTables {
 
 /// The numbers of these tables.
 fn numbers_of(alloc: Global, tables: &[MemTableFile]) -> Result<Vec<u64>, AllocError>
-    ensures { IfOk result (λ numbers. (n : ℕ) → is_among numbers.items n ≡ is_some (table_in tables.now n)) }
+    ensures { IfOk result (λ numbers. (n : ℕ) →
+        is_among numbers.items n ≡ is_some (table_in tables.now n)) }
 {
     match tables {
         [] => Ok(Vec::new(alloc)),

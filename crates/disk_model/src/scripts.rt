@@ -12,7 +12,8 @@ pub trait Scripts {
     /// How often a call has failed, a count that stays at 2^64 - 1 once it is there.
     ghost faults: { Self → ℕ };
 
-    /// Copies bytes of the script `name` from place `at` on to the front of `out`, and gives their count.
+    /// Copies bytes of the script `name` from place `at` on to the front of `out`, and gives their
+    /// count.
     ///
     /// It may give fewer than there are. 0 bytes of an `out` that isn't empty are the script's end.
     /// `Failed` comes only where the count of faults rose.

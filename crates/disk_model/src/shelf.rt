@@ -10,8 +10,8 @@ use crate::port_tables::PortTables;
 use crate::{MemTableFile, Pick};
 use std::alloc::{AllocError, Global};
 
-/// The tables of devices in memory: those that were there at first, and what each maker made that was handed
-/// back, the latest first.
+/// The tables of devices in memory: those that were there at first, and what each maker made that
+/// was handed back, the latest first.
 #[derive(Drop)]
 pub enum Shelf {
     Resting(PortTables),
@@ -84,8 +84,10 @@ impl Shelf {
         table: &MemTableFile,
         left: &mut Vec<MemTableFile>,
     ) -> Result<(), AllocError>
-        ensures { OnOk result ((n : ℕ) → table_in left.new.items n
-            ≡ option_or (table_in left.old.items n) (without (is_lost pick (gone_by self.now)) (table_in (table.now ∷ [])) n)) }
+        ensures { OnOk result ((n : ℕ) →
+            table_in left.new.items n
+            ≡ option_or (table_in left.old.items n) (without (is_lost pick (gone_by self.now))
+            (table_in (table.now ∷ [])) n)) }
     {
         if self.loses(pick, table.number) {
             return Ok(());
@@ -101,8 +103,10 @@ impl Shelf {
         tables: &[MemTableFile],
         left: &mut Vec<MemTableFile>,
     ) -> Result<(), AllocError>
-        ensures { OnOk result ((n : ℕ) → table_in left.new.items n
-            ≡ option_or (table_in left.old.items n) (without (is_lost pick (gone_by self.now)) (table_in tables.now) n)) }
+        ensures { OnOk result ((n : ℕ) →
+            table_in left.new.items n
+            ≡ option_or (table_in left.old.items n) (without (is_lost pick (gone_by self.now))
+            (table_in tables.now) n)) }
     {
         match tables {
             [] => Ok(()),
@@ -120,8 +124,10 @@ impl Shelf {
         part: &Shelf,
         left: &mut Vec<MemTableFile>,
     ) -> Result<(), AllocError>
-        ensures { OnOk result ((n : ℕ) → table_in left.new.items n
-            ≡ option_or (table_in left.old.items n) (without (is_lost pick (gone_by self.now)) (kept_by part.now) n)) }
+        ensures { OnOk result ((n : ℕ) →
+            table_in left.new.items n
+            ≡ option_or (table_in left.old.items n) (without (is_lost pick (gone_by self.now))
+            (kept_by part.now) n)) }
     {
         match part {
             Shelf::Resting(tables) => self.leave_of(pick, &tables.sealed, left),
@@ -134,22 +140,26 @@ impl Shelf {
 
     /// A handle of each sealed table that a crash leaves.
     fn leave_sealed(&self, alloc: Global, pick: Pick) -> Result<Vec<MemTableFile>, AllocError>
-        ensures { IfOk result (λ left. (n : ℕ) → table_in left.items n ≡ (files_left pick self.now).sealed n) }
+        ensures { IfOk result (λ left. (n : ℕ) →
+            table_in left.items n ≡ (files_left pick self.now).sealed n) }
     {
         let mut left = Vec::new(alloc);
         self.leave_part(pick, self, &mut left)?;
         Ok(left)
     }
 
-    /// Adds this number, which was begun and not sealed, if a crash leaves it and it wasn't removed.
+    /// Adds this number, which was begun and not sealed, if a crash leaves it and it wasn't
+    /// removed.
     fn add_unsealed(
         &self,
         pick: Pick,
         number: u64,
         numbers: &mut Vec<u64>,
     ) -> Result<(), AllocError>
-        ensures { OnOk result ((n : ℕ) → is_among numbers.new.items n
-            ≡ (is_among numbers.old.items n || (is_done pick n && (not (is_gone (gone_by self.now) n) && number == n)))) }
+        ensures { OnOk result ((n : ℕ) →
+            is_among numbers.new.items n
+            ≡ (is_among numbers.old.items n || (is_done pick n &&
+            (not (is_gone (gone_by self.now) n) && number == n)))) }
     {
         if !does(pick, number) || self.has_lost(number) {
             return Ok(());
@@ -160,8 +170,10 @@ impl Shelf {
 
     /// Adds those of these numbers, which were begun and not sealed, that a crash leaves.
     fn add_each(&self, pick: Pick, begun: &[u64], numbers: &mut Vec<u64>) -> Result<(), AllocError>
-        ensures { OnOk result ((n : ℕ) → is_among numbers.new.items n
-            ≡ (is_among numbers.old.items n || (is_done pick n && (not (is_gone (gone_by self.now) n) && is_among begun.now n)))) }
+        ensures { OnOk result ((n : ℕ) →
+            is_among numbers.new.items n
+            ≡ (is_among numbers.old.items n || (is_done pick n &&
+            (not (is_gone (gone_by self.now) n) && is_among begun.now n)))) }
     {
         match begun {
             [] => Ok(()),
@@ -179,8 +191,10 @@ impl Shelf {
         begun: Option<u64>,
         numbers: &mut Vec<u64>,
     ) -> Result<(), AllocError>
-        ensures { OnOk result ((n : ℕ) → is_among numbers.new.items n
-            ≡ (is_among numbers.old.items n || (is_done pick n && (not (is_gone (gone_by self.now) n) && is_begun begun n)))) }
+        ensures { OnOk result ((n : ℕ) →
+            is_among numbers.new.items n
+            ≡ (is_among numbers.old.items n || (is_done pick n &&
+            (not (is_gone (gone_by self.now) n) && is_begun begun n)))) }
     {
         match begun {
             Some(number) => self.add_unsealed(pick, number, numbers),
@@ -188,10 +202,13 @@ impl Shelf {
         }
     }
 
-    /// Adds the numbers of a part of the whole that were begun and not sealed and that a crash leaves.
+    /// Adds the numbers of a part of the whole that were begun and not sealed and that a crash
+    /// leaves.
     fn begun_in(&self, pick: Pick, part: &Shelf, numbers: &mut Vec<u64>) -> Result<(), AllocError>
-        ensures { OnOk result ((n : ℕ) → is_among numbers.new.items n
-            ≡ (is_among numbers.old.items n || (is_done pick n && (not (is_gone (gone_by self.now) n) && begun_by part.now n)))) }
+        ensures { OnOk result ((n : ℕ) →
+            is_among numbers.new.items n
+            ≡ (is_among numbers.old.items n || (is_done pick n &&
+            (not (is_gone (gone_by self.now) n) && begun_by part.now n)))) }
     {
         match part {
             Shelf::Resting(tables) => self.add_each(pick, &tables.unsealed, numbers),
@@ -204,8 +221,10 @@ impl Shelf {
 
     /// The table files that a crash leaves. By `New` these are those that are there.
     pub fn leave(&self, alloc: Global, pick: Pick) -> Result<PortTables, AllocError>
-        ensures sealed { IfOk result (λ left. (n : ℕ) → (files_in left).sealed n ≡ (files_left pick self.now).sealed n) }
-        ensures unsealed { IfOk result (λ left. (n : ℕ) → (files_in left).is_unsealed n ≡ (files_left pick self.now).is_unsealed n) }
+        ensures sealed { IfOk result (λ left. (n : ℕ) →
+            (files_in left).sealed n ≡ (files_left pick self.now).sealed n) }
+        ensures unsealed { IfOk result (λ left. (n : ℕ) →
+            (files_in left).is_unsealed n ≡ (files_left pick self.now).is_unsealed n) }
         ensures there { pick ≡ New → IfOk result (λ left. files_in left ≡ files_of self.now) }
     {
         let sealed = self.leave_sealed(alloc, pick)?;

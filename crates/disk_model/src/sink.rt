@@ -18,7 +18,8 @@ pub trait Sink {
 
     /// Takes all of `bytes` after those taken before.
     ///
-    /// `Failed` comes only where the count of faults rose; then some first bytes were taken, or none.
+    /// `Failed` comes only where the count of faults rose; then some first bytes were taken, or
+    /// none.
     fn put(&mut self, bytes: &[u8]) -> Result<(), Failed>
         ensures taken { Takes (taken self.old) bytes.now result (taken self.new) }
         ensures label { label self.new ≡ label self.old }

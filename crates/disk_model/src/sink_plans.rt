@@ -6,8 +6,9 @@ use std::alloc::Global;
 
 /// The plans of the sinks in memory.
 ///
-/// `calls` are the calls of `client` and `report` that fail and do nothing. A client's sink in `rooms`, or the
-/// report, takes the given number of bytes in all; a call that goes past them takes those that fit, and fails.
+/// `calls` are the calls of `client` and `report` that fail and do nothing. A client's sink in
+/// `rooms`, or the report, takes the given number of bytes in all; a call that goes past them takes
+/// those that fit, and fails.
 #[derive(Drop)]
 pub struct SinkPlans {
     pub calls: FailPlan,

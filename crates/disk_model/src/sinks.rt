@@ -23,17 +23,19 @@ pub trait Sinks {
     /// How often `client` or `report` has failed.
     ghost faults: { Self → ℕ };
 
-    /// How often a client's sink was opened, and the label of the one that was handed back last for each client.
+    /// How often a client's sink was opened, and the label of the one that was handed back last for
+    /// each client.
     ghost names: { Self → SinkNames };
 
     /// Opens the sink of client `index` under this name. It has taken nothing.
     ///
-    /// What is told of the others and of the report stays. `Failed` comes only where the count of faults
-    /// rose.
+    /// What is told of the others and of the report stays. `Failed` comes only where the count of
+    /// faults rose.
     fn client(&mut self, index: u32, name: &str) -> Result<Self::One, Failed>
         ensures fresh { IfOk result (λ one. IsFresh (Self.One.taken one)) }
         ensures unused { IfOk result (λ one. Self.One.faults one ≡ 0) }
-        ensures label { IfOk result (λ one. Self.One.label one ≡ record { client = index; name = name.now }) }
+        ensures label { IfOk result (λ one.
+            Self.One.label one ≡ record { client = index; name = name.now }) }
         ensures opened { OnOk result (names self.new ≡ after_client (names self.old)) }
         ensures unopened { OnErr result (names self.new ≡ names self.old) }
         ensures report { reported self.new ≡ reported self.old }
@@ -43,7 +45,8 @@ pub trait Sinks {
 
     /// Takes all of `bytes` as the report's next ones. What is told of the clients' sinks stays.
     ///
-    /// `Failed` comes only where the count of faults rose; then some first bytes were taken, or none.
+    /// `Failed` comes only where the count of faults rose; then some first bytes were taken, or
+    /// none.
     fn report(&mut self, bytes: &[u8]) -> Result<(), Failed>
         ensures taken { Takes (reported self.old) bytes.now result (reported self.new) }
         ensures names { names self.new ≡ names self.old }
@@ -51,10 +54,11 @@ pub trait Sinks {
         ensures counts { (i : ℕ) → client_faults self.new i ≡ client_faults self.old i }
         ensures cause { HasCause (faults self.old) (faults self.new) result };
 
-    /// Takes back the sink of client `index`, and tells from then on what it took, how often it failed, and its
-    /// label.
+    /// Takes back the sink of client `index`, and tells from then on what it took, how often it
+    /// failed, and its label.
     fn back(&mut self, index: u32, one: Self::One)
-        ensures returned { names self.new ≡ after_return index (Self.One.label one) (names self.old) }
+        ensures returned { names self.new
+            ≡ after_return index (Self.One.label one) (names self.old) }
         ensures this { took self.new index ≡ Self.One.taken one }
         ensures count { client_faults self.new index ≡ Self.One.faults one }
         ensures others { (i : ℕ) → i ≢ index → took self.new i ≡ took self.old i }

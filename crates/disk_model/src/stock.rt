@@ -6,8 +6,8 @@ use crate::Failed;
 use crate::port_tables::PortTables;
 use crate::shelf::Shelf;
 
-/// What devices in memory hold of tables, and what their ports and makers did: the reads, the bytes taken and
-/// the faults.
+/// What devices in memory hold of tables, and what their ports and makers did: the reads, the bytes
+/// taken and the faults.
 #[derive(Drop)]
 pub struct Stock {
     pub shelf: Shelf,

@@ -5,7 +5,8 @@ pub trait TableHandle: Drop {
     /// Whether ports and makers of such handles tell what tables hold. Those over real files don't.
     ghost tells: { Bool };
 
-    /// Whether a call of a port or a maker that fails has done nothing. Over real files a part of it may be done.
+    /// Whether a call of a port or a maker that fails has done nothing. Over real files a part of
+    /// it may be done.
     ghost is_atomic: { Bool };
 
     /// The table's number.

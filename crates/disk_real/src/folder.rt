@@ -15,9 +15,9 @@ use std::{fs, io};
 
 /// The directory of a store, by its name. One that isn't there reads as an empty one.
 ///
-/// While it is open no other program, and no other opening of it, gets in. A directory that isn't there is made with
-/// its first file, and kept from then on. Its own name is stable before the first file is made in it; so where a file
-/// is there, its name needs no sync.
+/// While it is open no other program, and no other opening of it, gets in. A directory that isn't
+/// there is made with its first file, and kept from then on. Its own name is stable before the
+/// first file is made in it; so where a file is there, its name needs no sync.
 #[derive(Drop)]
 pub struct Folder<R: Files<File: KeepOut> + AllocGlobal + Clone + Drop> {
     pub rt: R,
@@ -56,7 +56,8 @@ impl<R: Files<File: KeepOut> + AllocGlobal + Clone + Drop> Folder<R> {
         format!(in self.rt.alloc(); "{folder}/{name}")
     }
 
-    /// Keeps others out of the directory, if it is there. The error is `WouldBlock` where another is in it.
+    /// Keeps others out of the directory, if it is there. The error is `WouldBlock` where another
+    /// is in it.
     pub fn keep_others_out(&self) -> io::Result<()> {
         if self.shared.hold.get().is_some() {
             return Ok(());
@@ -71,7 +72,8 @@ impl<R: Files<File: KeepOut> + AllocGlobal + Clone + Drop> Folder<R> {
         }
     }
 
-    /// Makes the directory where it wasn't there, keeps others out of it, and makes its own name stable.
+    /// Makes the directory where it wasn't there, keeps others out of it, and makes its own name
+    /// stable.
     ///
     /// A directory that another program made since this one looked is an error.
     pub fn make(&self) -> io::Result<()> {
@@ -109,7 +111,8 @@ impl<R: Files<File: KeepOut> + AllocGlobal + Clone + Drop> Folder<R> {
         self.sync(".")
     }
 
-    /// Syncs a directory by its path from this one. Where this one isn't there, there is none to sync.
+    /// Syncs a directory by its path from this one. Where this one isn't there, there is none to
+    /// sync.
     fn sync(&self, path: &str) -> io::Result<()> {
         match self.open(path)? {
             Some(folder) => folder.sync_all(),

@@ -28,7 +28,8 @@ struct Opened<F> {
 pub struct JournalFolder<R: Files<File: KeepOut> + AllocGlobal + Clone + Drop> {
     folder: Folder<R>,
     opened: Option<Opened<R::File>>,
-    /// Whether no name in the directory has changed since it was synced. Before its first sync nothing is known.
+    /// Whether no name in the directory has changed since it was synced. Before its first sync
+    /// nothing is known.
     names_are_stable: bool,
 }
 
@@ -58,7 +59,8 @@ impl<R: Files<File: KeepOut> + AllocGlobal + Clone + Drop> JournalFolder<R> {
         Ok(Some(size))
     }
 
-    /// Reads from place `at` on until `out` is full or the file ends. An absent file reads as empty.
+    /// Reads from place `at` on until `out` is full or the file ends. An absent file reads as
+    /// empty.
     pub fn read(&mut self, file: JournalFile, at: u64, out: &mut [u8]) -> io::Result<usize>
         ensures count { IfOk result (λ n. n ≤ length out.old) }
     {
@@ -160,8 +162,8 @@ impl<R: Files<File: KeepOut> + AllocGlobal + Clone + Drop> JournalFolder<R> {
 
     /// Makes the names in the directory stable.
     ///
-    /// An earlier run may have been killed between a change of names and the sync of it, so the first call
-    /// syncs whatever this run did.
+    /// An earlier run may have been killed between a change of names and the sync of it, so the
+    /// first call syncs whatever this run did.
     fn sync_names(&mut self) -> io::Result<()> {
         if !self.names_are_stable {
             self.folder.sync_names()?;

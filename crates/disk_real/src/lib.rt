@@ -1,8 +1,8 @@
 //! The devices, scripts and sinks over real files.
 //!
-//! The program makes them and hands them to the layers above by the traits of `disk_model`. They tell nothing of
-//! what their files hold: what is promised over them of bytes rests on the model of the disk, and which calls of the
-//! system they make is tested.
+//! The program makes them and hands them to the layers above by the traits of `disk_model`. They
+//! tell nothing of what their files hold: what is promised over them of bytes rests on the model of
+//! the disk, and which calls of the system they make is tested.
 #![tactic(auto)]
 
 #[cfg(test)]

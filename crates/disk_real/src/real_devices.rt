@@ -52,9 +52,10 @@ impl<R: Files<File: KeepOut> + Wait + AllocGlobal + Clone + Drop> RealDevices<R>
         ensures gone { gone_by result.makers ≡ none_gone }
         ensures table_faults { result.table_faults.count ≡ 0 }
     {
+        let directories = Directories::none(rt.alloc());
         RealDevices {
             rt,
-            directories: Directories::none(),
+            directories,
             shared: None,
             is_trusted: true,
             journal_faults: Faults::none(),
@@ -66,7 +67,8 @@ impl<R: Files<File: KeepOut> + Wait + AllocGlobal + Clone + Drop> RealDevices<R>
         }
     }
 
-    /// What the objects over a directory of this name share: where it is the chosen one, what they share already.
+    /// What the objects over a directory of this name share: where it is the chosen one, what they
+    /// share already.
     fn shared_of(&self, name: &str) -> Result<Arc<Shared<R::File>>, AllocError> {
         match (&self.shared, self.directories.chosen()) {
             (Some(shared), Some(chosen)) if chosen == name => Arc::try_clone(shared),
@@ -76,7 +78,8 @@ impl<R: Files<File: KeepOut> + Wait + AllocGlobal + Clone + Drop> RealDevices<R>
 
     /// The directory that was chosen, with others kept out of it.
     fn chosen(&self) -> io::Result<Folder<R>>
-        ensures { IfOk result (λ folder. Some (string_bytes folder.name) ≡ self.now.directories.chosen) }
+        ensures { IfOk result (λ folder.
+            Some (string_bytes folder.name) ≡ self.now.directories.chosen) }
     {
         let (Some(name), Some(shared)) = (self.directories.chosen(), &self.shared) else {
             return Err(io::Error::from(ErrorKind::NotFound));
@@ -89,7 +92,8 @@ impl<R: Files<File: KeepOut> + Wait + AllocGlobal + Clone + Drop> RealDevices<R>
 
     /// The journal in the directory that was chosen. It opens and makes nothing yet.
     fn open_journal(&self) -> io::Result<RealJournal<R>>
-        ensures directory { IfOk result (λ journal. Some (string_bytes journal.folder.folder.name) ≡ self.now.directories.chosen) }
+        ensures directory { IfOk result (λ journal. Some (string_bytes journal.folder.folder.name)
+            ≡ self.now.directories.chosen) }
         ensures faults { IfOk result (λ journal. journal.faults ≡ self.now.journal_faults) }
     {
         let files = JournalFolder::new(self.chosen()?);

@@ -11,9 +11,9 @@ use std::rt::Files;
 
 /// The journal over real files, `log-N`, `manifest-a` and `manifest-b` in one directory.
 ///
-/// It tells nothing of what the files hold. A directory that isn't there reads as an empty one, and is made with
-/// its first file. After a sync that failed no later one proves anything, since the system counts the pages as
-/// clean: so from then on each `sync` and `drop_file` fails.
+/// It tells nothing of what the files hold. A directory that isn't there reads as an empty one, and
+/// is made with its first file. After a sync that failed no later one proves anything, since the
+/// system counts the pages as clean: so from then on each `sync` and `drop_file` fails.
 #[derive(Drop)]
 pub struct RealJournal<R: Files<File: KeepOut> + AllocGlobal + Clone + Drop> {
     folder: JournalFolder<R>,
@@ -22,7 +22,8 @@ pub struct RealJournal<R: Files<File: KeepOut> + AllocGlobal + Clone + Drop> {
 }
 
 impl<R: Files<File: KeepOut> + AllocGlobal + Clone + Drop> RealJournal<R> {
-    /// The journal in this directory, with the faults that were counted before and whether its syncs are trusted.
+    /// The journal in this directory, with the faults that were counted before and whether its
+    /// syncs are trusted.
     pub fn new(folder: JournalFolder<R>, is_trusted: bool, faults: Faults) -> RealJournal<R>
         ensures folder { result.folder ≡ folder }
         ensures trust { result.is_trusted ≡ is_trusted }

@@ -19,7 +19,8 @@ use std::io::{ErrorKind, Write};
 use std::rt::Files;
 use std::sync::Wait;
 
-/// A table's file that isn't sealed yet. After a sync that failed no later one of it proves anything.
+/// A table's file that isn't sealed yet. After a sync that failed no later one of it proves
+/// anything.
 #[derive(Drop)]
 pub struct Begun<F> {
     pub number: u64,
@@ -27,7 +28,8 @@ pub struct Begun<F> {
     is_trusted: bool,
 }
 
-/// The maker over real files, `table-S.C` in one directory. It tells nothing of what the files hold.
+/// The maker over real files, `table-S.C` in one directory. It tells nothing of what the files
+/// hold.
 #[derive(Drop)]
 pub struct RealMaker<R: Files<File: KeepOut> + Wait + AllocGlobal + Clone + Drop> {
     folder: Folder<R>,
@@ -64,7 +66,8 @@ fn begin_file<R: Files<File: KeepOut> + Wait + AllocGlobal + Clone + Drop>(
     })
 }
 
-/// Writes all bytes behind the earlier ones, and gives the count of those written also where some aren't.
+/// Writes all bytes behind the earlier ones, and gives the count of those written also where some
+/// aren't.
 fn write_file<F: Write>(begun: &mut Begun<F>, bytes: &[u8], count: &mut usize) -> io::Result<()>
     requires { count.old ≡ 0 }
     ensures within { count.new ≤ length bytes.now }

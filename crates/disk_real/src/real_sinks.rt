@@ -11,7 +11,8 @@ use std::fs::File;
 use std::rt::Files;
 use std::{io, mem};
 
-/// Replies to real files, and the report to the standard output. They tell nothing of what was taken.
+/// Replies to real files, and the report to the standard output. They tell nothing of what was
+/// taken.
 #[derive(Drop)]
 pub struct RealSinks<R: Files + Print + AllocGlobal + Clone + Drop> {
     rt: R,
@@ -38,7 +39,8 @@ impl<R: Files + Print + AllocGlobal + Clone + Drop> RealSinks<R> {
     /// Makes the file, or empties it.
     fn open(&self, client: u32, name: &str) -> io::Result<RealSink<R::File>>
         ensures unused { IfOk result (λ sink. sink.faults.count ≡ 0) }
-        ensures label { IfOk result (λ sink. sink.label ≡ record { client = client; name = name.now }) }
+        ensures label { IfOk result (λ sink.
+            sink.label ≡ record { client = client; name = name.now }) }
     {
         let place = Box::new(self.rt.alloc(), Returned::Nothing)?;
         let name = String::from_str(self.rt.alloc(), name)?;

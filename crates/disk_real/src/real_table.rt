@@ -16,8 +16,9 @@ use std::{fs, io};
 
 /// A handle of a table's file, `table-S.C`. It tells nothing of what the file holds.
 ///
-/// It keeps the file's path alone, so that no place in an open file is shared between threads. All handles of a table
-/// share whether it is retired: the last one that is dropped takes the file of a retired table away.
+/// It keeps the file's path alone, so that no place in an open file is shared between threads. All
+/// handles of a table share whether it is retired: the last one that is dropped takes the file of a
+/// retired table away.
 pub struct RealTable<R: Files<File: KeepOut> + Wait + Drop> {
     rt: R,
     path: String,
@@ -70,7 +71,8 @@ impl<R: Files<File: KeepOut> + Wait + Drop> Drop for RealTable<R> {
             number,
             shared,
         } = self;
-        // The lock is kept meanwhile, so that a handle that is made at this time is counted before or finds no file.
+        // The lock is kept meanwhile, so that a handle that is made at this time is counted before
+        // or finds no file.
         let mut tables = shared.tables.lock(&rt);
         if tables.let_go(number) {
             // A file that stays is removed by the next opening.

@@ -5,14 +5,16 @@ use std::alloc::Global;
 use std::sync::atomic::AtomicBool;
 use std::sync::{Mutex, OnceLock};
 
-/// What the objects over one directory share: its lock, whether its own name is stable, and the handles of its tables.
+/// What the objects over one directory share: its lock, whether its own name is stable, and the
+/// handles of its tables.
 #[derive(Drop)]
 pub struct Shared<F> {
-    /// The directory's handle by whose lock others are kept out. There is none while the directory isn't there.
+    /// The directory's handle by whose lock others are kept out. There is none while the directory
+    /// isn't there.
     pub hold: OnceLock<F>,
     pub is_named: AtomicBool,
-    /// Whether the directory's own name was synced by this run, perhaps in vain: after a sync that failed no later one
-    /// proves anything.
+    /// Whether the directory's own name was synced by this run, perhaps in vain: after a sync that
+    /// failed no later one proves anything.
     pub was_named: AtomicBool,
     pub tables: Mutex<TableHandles>,
 }

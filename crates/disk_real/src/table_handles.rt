@@ -15,7 +15,8 @@ pub struct Handles {
     pub is_retired: bool,
 }
 
-/// The tables of which there are handles, by their numbers. All handles of a number share whether it is retired.
+/// The tables of which there are handles, by their numbers. All handles of a number share whether
+/// it is retired.
 #[derive(Drop)]
 pub struct TableHandles {
     tables: BTreeMap<u64, Handles>,
@@ -60,8 +61,8 @@ impl TableHandles {
         Ok(())
     }
 
-    /// Keeps that the table of this number is retired. An `Err`, which comes only where there is no handle of it,
-    /// changes nothing.
+    /// Keeps that the table of this number is retired. An `Err`, which comes only where there is no
+    /// handle of it, changes nothing.
     pub fn retire(&mut self, number: u64) -> Result<(), AllocError>
         ensures retired { OnOk result (Updates nat_cmp self.old.tables self.new.tables number
             (Some (retired_at (handles_at self.old.tables number)))) }
@@ -78,8 +79,8 @@ impl TableHandles {
         Ok(())
     }
 
-    /// Counts one handle less of the table of this number. Says whether the table's file goes now: it is retired, and
-    /// this was its last handle.
+    /// Counts one handle less of the table of this number. Says whether the table's file goes now:
+    /// it is retired, and this was its last handle.
     pub fn let_go(&mut self, number: u64) -> bool
         ensures goes { result ≡ goes (handles_at self.old.tables number) }
         ensures fewer { Updates nat_cmp self.old.tables self.new.tables number
