@@ -345,7 +345,7 @@ cut_run o r w [] d h l = h
 cut_run o r w (e ∷ es) d h l =
     cut_run o r (step o w e) es d (record {
       all = all_step o w e d h.all l.0;
-      numbers = numbers_step o w e h.all h.numbers l.0;
+      numbers = numbers_step o w e h.numbers l.0;
       each = each_step o (IsCutFor o) (cut_starts o d) (cut_kept o) w e h.all h.numbers h.each l.0;
       moves = moves_step o r w e h.all h.each h.moves l.0;
     }) l.1

@@ -2,12 +2,11 @@
 use Rattle.std.proofs.Common.{◌≡◌, ◌≢◌, false, not, List, inl, inr, refl, sym, subst}
 use Rattle.std.specs.Prelude.{◌==◌, Option, Some, None, option_map, ⊤}
 use Rattle.std.proofs.lemmas.Bool.{eqb-false, not-true}
-use Rattle.peb_base.specs.Batches.{last_number}
 use Rattle.peb_base.specs.Profiles.{Column}
 use Rattle.flsm_model.specs.declared.edit.Edit.{Edit}
 use Rattle.flsm_model.specs.declared.job.Job.{Job}
 use Rattle.flsm_model.specs.Trees.{Tree, installed}
-use Rattle.flsm_model.specs.Events.{Event, Opened, Commit, Synced, Look, Hold, Release, Freeze, Begin, Done, Short, JournalFault, Stop, Session, Standing, Running}
+use Rattle.flsm_model.specs.Events.{Event, Opened, Commit, Synced, Look, Hold, Release, Freeze, Begin, Done, Short, JournalFault, Stop, Session, Standing, last_of, Running}
 use Rattle.flsm_model.specs.Claims.{jobs_conflict}
 use Rattle.flsm_model.specs.Outcomes.{IsOutcome}
 use Rattle.flsm_model.specs.Jobs.{IsLawful}
@@ -66,7 +65,7 @@ module _ (o : Column) (J : Tree → Job → Type 0)
       ((λ r i. elim i [ inl s ↦ subst (λ (z : Running). J w.tree z.1) (sym s) (start w n job al nu e y.2) | inr m ↦ x.0 r m ]), x.1)) h
   each_step w (Done actor e) al nu h a = by w.session refl a h al.holds.jobs nu
     where
-      by : (s : Option Session) → w.session ≡ s → Allowed o w s (Done actor e) → InEach J w.tree s → JobsHold o w.tree s → NumbersHold w.tree.shape (last_number w.batches) s
+      by : (s : Option Session) → w.session ≡ s → Allowed o w s (Done actor e) → InEach J w.tree s → JobsHold o w.tree s → NumbersHold w.tree.shape (last_of w) s
           → InEach J (installed o w.batches w.tree e) (step o w (Done actor e)).session
       by None eq x y jo num = absurd x
       by (Some n) eq x y jo num =

@@ -99,7 +99,7 @@ map_holds p bs r es base_true legal n eq m read x put =
     let h = whole_run o (base o bs r) es (deep p) (record { holds = sound_base o r bs base_true; placed = placed_base o bs r base_true; shows = shows_base o bs r base_true }) legal in
     let to : ℕ = w.tree.shape.to in
     let floor : floor_of n.held (last_number w.batches) ≤ m =
-    elim read [ inl l ↦ omega (arith, floor_last n.held (last_number w.batches)) | inr a ↦ held_above a.0 m n.held (last_number w.batches) a.1 ] in
+    elim read [ inl l ↦ omega (arith, l, h.shows.to_last, floor_last n.held (last_number w.batches)) | inr a ↦ held_above a.0 m n.held (last_number w.batches) a.1 ] in
     let same : ShowsAt w.tree w.batches m = h.shows.shown m (inr (subst (λ s. Readable (last_number w.batches) s m) (sym eq) floor)) in
     let low_live : (y : Entry) → Live w.tree y → y.number ≤ to = λ y v. h.holds.sound.flushed.flushed v.table y v.among v.inside in
     let low : (y : Entry) → Flushed w.batches to y → y.number ≤ to = λ y v. v.upto in

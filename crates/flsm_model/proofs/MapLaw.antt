@@ -11,7 +11,7 @@ use Rattle.flsm_model.specs.declared.job_kind.JobKind.TheVariants.{Flush as Flus
 use Rattle.flsm_model.specs.declared.job.Job.{Job}
 use Rattle.flsm_model.specs.Shape.{has_number}
 use Rattle.flsm_model.specs.Trees.{Table, Tree, installed, tables_without}
-use Rattle.flsm_model.specs.Events.{Event, Opened, Commit, Synced, Look, Hold, Release, Freeze, Begin, Done, Short, JournalFault, Stop, Session, Standing, Running}
+use Rattle.flsm_model.specs.Events.{Event, Opened, Commit, Synced, Look, Hold, Release, Freeze, Begin, Done, Short, JournalFault, Stop, Session, Standing, Running, last_of}
 use Rattle.flsm_model.specs.Jobs.{floor_of, IsLawful}
 use Rattle.flsm_model.specs.Steps.{flushed, without_job, step, run}
 use Rattle.flsm_model.specs.Legal.{last_running, Allowed}
@@ -26,6 +26,10 @@ use Rattle.flsm_model.proofs.Covers.{Live, OneByNumber, one_step, newest_same}
 use Rattle.flsm_model.proofs.Maps.{Flushed}
 use Rattle.flsm_model.proofs.Shown.{to_kept, ShowsAt, AtLevels, floor_last, floor_more, floor_released, levels_step, outcome_shows, pushed_same, dropped_same}
 use Rattle.flsm_model.proofs.Lists.{in_filter, in_left, in_kept}
+
+-- where the last flush is of batches that are there, the last number is theirs
+pub last_same : (w : Standing) → w.tree.shape.to ≤ last_number w.batches → last_of w ≡ last_number w.batches
+last_same w h = omega (arith, h)
 
 -- no job's floor is above the floor now
 abbrev pub FloorsBelow : List Running → ℕ → Type 0
@@ -165,7 +169,7 @@ shows_step o w (Opened session log) hold pl h a = by w.session a
           one = one_step o w.batches w.tree (Open session log) refl (known_tables o w.tree hold.sound) h.one;
           levels = levels_step o w.batches w.tree (Open session log) x.0 h.levels;
           to_last = h.to_last;
-          session = record { stable = h.to_last; stable_last = omega arith; frozen = λ k q. absurd (none_some k q); floors = λ r i. absurd i; faults = tt };
+          session = record { stable = omega arith; stable_last = omega (arith, h.to_last); frozen = λ k q. absurd (none_some k q); floors = λ r i. absurd i; faults = tt };
           shown = λ m at. open_shows o w.batches w.tree session log m (h.shown m (inl (elim at [ inl b ↦ b | inr b ↦ omega (arith, h.to_last) ])));
         }
       where
@@ -206,12 +210,12 @@ shows_step o w (Commit actor first ops) hold pl h a = by w.session refl a pl.wit
           subst (λ s. Readable (last_number bs2) (option_map {T = Session} {U = Session} (λ s. record s { committed = s.committed + length ops }) s) m) eq b,
         ))
 shows_step o w (Synced actor k) hold pl h a =
-    session_only o w _ (λ n e x. (record { stable = omega (arith, x.stable); stable_last = omega (arith, x.stable_last, (within o w (Synced actor k) n e a).1); frozen = λ q r. omega (arith, x.frozen q r); floors = x.floors; faults = x.faults }, omega arith)) h
+    session_only o w _ (λ n e x. (record { stable = omega (arith, x.stable); stable_last = omega (arith, x.stable_last, h.to_last, (within o w (Synced actor k) n e a).1); frozen = λ q r. omega (arith, x.frozen q r); floors = x.floors; faults = x.faults }, omega arith)) h
 shows_step o w (Look actor k) hold pl h a = h
 shows_step o w (Hold actor k) hold pl h a =
     session_only o w _ (λ n e x.
     let same : floor_of ((actor, k) ∷ n.held) (last_number w.batches) ≡ floor_of n.held (last_number w.batches) =
-    omega (arith, (within o w (Hold actor k) n e a).0, floor_last n.held (last_number w.batches)) in
+    omega (arith, h.to_last, (within o w (Hold actor k) n e a).0, floor_last n.held (last_number w.batches)) in
     (record { stable = x.stable; stable_last = x.stable_last; frozen = x.frozen; floors = λ r i. omega (arith, same, x.floors r i); faults = subst (FaultFloors n.faulted) (sym same) x.faults }, omega (arith, same))) h
 shows_step o w (Release actor k) hold pl h a =
     session_only o w _ (λ n e x.
@@ -220,7 +224,7 @@ shows_step o w (Release actor k) hold pl h a =
 shows_step o w (Freeze k) hold pl h a =
     session_only o w _ (λ n e x.
     let y = within o w (Freeze k) n e a in
-    (record { stable = omega (arith, x.stable); stable_last = omega (arith, x.stable_last, y.3); frozen = λ q r. omega (arith, some_same k q r); floors = x.floors; faults = x.faults }, omega arith)) h
+    (record { stable = omega (arith, x.stable); stable_last = omega (arith, x.stable_last, h.to_last, y.3); frozen = λ q r. omega (arith, some_same k q r); floors = x.floors; faults = x.faults }, omega arith)) h
   where
     some_same : (k q : ℕ) → Some k ≡ Some q → k ≡ q
     some_same k q r = cc
@@ -232,7 +236,7 @@ shows_step o w (Begin actor job) hold pl h a =
         stable = x.stable;
         stable_last = x.stable_last;
         frozen = x.frozen;
-        floors = λ r i. elim i [ inl q ↦ omega (arith, ap (λ (z : Running). z.1.floor) q, l.floor) | inr m ↦ x.floors r m ];
+        floors = λ r i. elim i [ inl q ↦ omega (arith, ap (λ (z : Running). z.1.floor) q, l.floor, ap (floor_of n.held) (last_same w h.to_last)) | inr m ↦ x.floors r m ];
         faults = x.faults;
       },
       omega arith,

@@ -198,7 +198,7 @@ map_shows p bs r es base_true legal = record { flushed = at_flush; read = at_rea
       ],
     )
 
-    at_read : (n : Session) → w.session ≡ Some n → (m : ℕ) → IsRead w.batches n m → shown (all_entries w.tree.tables ++ in_memory w.batches to) m ≡ map_at w.batches m
+    at_read : (n : Session) → w.session ≡ Some n → (m : ℕ) → IsRead w n m → shown (all_entries w.tree.tables ++ in_memory w.batches to) m ≡ map_at w.batches m
     at_read n eq m rd =
         let es2 : List Entry = all_entries w.tree.tables ++ in_memory w.batches to in
         joined w.batches es2 m all.placed.ordered

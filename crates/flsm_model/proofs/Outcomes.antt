@@ -19,7 +19,7 @@ use Rattle.flsm_model.specs.declared.job_kind.JobKind.TheVariants.{Flush as Flus
 use Rattle.flsm_model.specs.declared.job.Job.{Job}
 use Rattle.flsm_model.specs.Fits.{fits, lies_in, are_inputs, input_range, is_some_list, is_straddled, is_candidate, is_guard, rows_are_new, are_choices}
 use Rattle.flsm_model.specs.Shape.{has_number, guards_at, rows_numbered, rows_without, outputs_of}
-use Rattle.flsm_model.specs.Events.{Session, Standing, base}
+use Rattle.flsm_model.specs.Events.{Session, Standing, base, last_of}
 use Rattle.flsm_model.specs.Jobs.{numbers_needed, job_range}
 use Rattle.flsm_model.specs.Outcomes.{into_at, IsEditOf}
 use Rattle.flsm_model.specs.Steps.{run}
@@ -35,7 +35,7 @@ use Rattle.flsm_model.proofs.Sorts.{Sorted, sorted_contents, sorted_filter, sort
 use Rattle.flsm_model.proofs.Histories.{JobsHold, JobsIn}
 use Rattle.flsm_model.proofs.Places.{Within}
 use Rattle.flsm_model.proofs.MapLaw.{SessionShows, InSession}
-use Rattle.flsm_model.proofs.Sessions.{NumbersHold, InNumbers, IsFrozen}
+use Rattle.flsm_model.proofs.Sessions.{NumbersHold, InNumbers, IsFrozen, marks_of}
 use Rattle.flsm_model.proofs.Jobs.{EachJob, FaultJobs, InEach}
 use Rattle.flsm_model.proofs.Undisturb.{EditIs, IsFlushOf, IsMoveOf, IsCutOf, IsMergeOf, edit_is}
 use Rattle.flsm_model.proofs.NewRows.{RowOf, row_of, rows_new, lies_between, first_range, some_rows, apart_lie, zip_of, pieces_apart, apart_ascends, pieces_clear, choices_fit, some_number, greatest_at_most}
@@ -170,7 +170,7 @@ module _ (o : Column) (w : Standing) (n : Session) (j : Job) (st : Stands o w) (
   flush_fits : (row : TableRow) (from to log : ℕ) (chosen : List Chosen) → j.kind ≡ FlushJob → IsMade o w n j (Flush row from to log chosen) → fits o w.tree.shape (Flush row from to log chosen) ≡ true
   flush_fits row from to log chosen k m =
       by (subst (λ a. IsEditOf a n j (Flush row from to log chosen)) k m.same)
-      (subst (NumbersHold w.tree.shape (last_number w.batches)) eq st.numbers)
+      (subst (NumbersHold w.tree.shape (last_of w)) eq st.numbers)
       (subst (SessionShows w.tree.shape.to (last_number w.batches)) eq st.all.shows.session)
       (subst (Within (last_number w.batches) w.tree.shape.session) eq st.all.placed.within)
     where
@@ -198,18 +198,18 @@ module _ (o : Column) (w : Standing) (n : Session) (j : Job) (st : Stands o w) (
       level : (row.level == 0) ≡ true
       level = (and_parts (row.level == 0) true (levels_are 0 e m (ap (λ a. into_at a j) k))).0
 
-      by : (n.frozen ≡ Some to) × (log ≡ n.log + n.freezes) → InNumbers w.tree.shape (last_number w.batches) n → InSession w.tree.shape.to (last_number w.batches) n
+      by : (n.frozen ≡ Some to) × (log ≡ n.log + n.freezes) → InNumbers w.tree.shape (last_of w) n → InSession w.tree.shape.to (last_number w.batches) n
           → (last_number w.batches ≤ w.tree.shape.session * 2 ^ 40 + n.committed) × (n.committed < 2 ^ 40) → fits o w.tree.shape (Flush row from to log chosen) ≡ true
       by q x y z =
-          let fz : IsFrozen w.tree.shape n to = x.frozen to q.0 in
+          let fz : IsFrozen w.tree.shape (marks_of n) to = x.marks.frozen to q.0 in
           let starts : from ≡ w.tree.shape.to = m.starts in
           and_from _ _ (and_from _ _ (and_from _ _ (and_from _ _ (and_from _ _ (and_from _ _ (and_from _ _ (and_from _ _ (and_from _ _ (and_from _ _
           (eq-eqb from w.tree.shape.to starts)
           (lt-ltb from to (omega (arith, starts, fz.above))))
           (lt-ltb w.tree.shape.log log (omega (arith, q.1, fz.log))))
-          (lt-ltb 1 log (omega (arith, q.1, fz.some, x.log_least))))
+          (lt-ltb 1 log (omega (arith, q.1, fz.some, x.marks.log_least))))
           (lt-ltb to ((w.tree.shape.session + 1) * 2 ^ 40) (omega (arith, y.frozen to q.0, y.stable_last, z.0, z.1))))
-          (le-leb log (w.tree.shape.session * 2 ^ 41) (omega (arith, q.1, x.few, x.log_room, x.positive, z.1))))
+          (le-leb log (w.tree.shape.session * 2 ^ 41) (omega (arith, q.1, x.marks.few, x.marks.log_room, x.positive, z.1))))
           level)
           (lt-ltb from row.first low))
           (le-leb row.last to high))

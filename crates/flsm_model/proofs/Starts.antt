@@ -6,7 +6,6 @@ use Rattle.std.proofs.lemmas.Bool.{and_parts, and_from, or_cases, cases_Bool, eq
 use Rattle.peb_base.specs.Keys.{Bytes}
 use Rattle.flsm_model.specs.Ranges.{in_range, range_of, first_of}
 use Rattle.peb_base.specs.Numbers.{session_of, count_of}
-use Rattle.peb_base.specs.Batches.{last_number}
 use Rattle.flsm_model.specs.Compaction.{straddles}
 use Rattle.peb_base.specs.declared.table_row.TableRow.{TableRow}
 use Rattle.peb_base.specs.Profiles.{Column}
@@ -15,7 +14,7 @@ use Rattle.flsm_model.specs.declared.job_kind.JobKind.TheVariants.{Flush as Flus
 use Rattle.flsm_model.specs.declared.job.Job.{Job}
 use Rattle.flsm_model.specs.Shape.{Shape, has_number, guards_at, rows_numbered, rows_without}
 use Rattle.flsm_model.specs.Fits.{lies_in, is_some_list, is_candidate, is_guard, is_straddled}
-use Rattle.flsm_model.specs.Events.{Session, Standing}
+use Rattle.flsm_model.specs.Events.{Session, Standing, last_of}
 use Rattle.flsm_model.specs.Jobs.{IsOfKind, are_tables, job_range, IsLawful}
 use Rattle.flsm_model.specs.TrueRecord.{IsIn}
 use Rattle.flsm_model.specs.Undisturbed.{NumbersFree, KeepsFlush, KeepsCut, KeepsKind, Undisturbed}
@@ -71,9 +70,9 @@ first_in p [] a h = absurd (false≢true a)
 first_in p (k ∷ ks) a h = (and_parts _ _ h).0
 
 pub begin_numbers : (o : Column) (w : Standing) (n : Session) (j : Job) → All o w → Numbers w → w.session ≡ Some n → IsLawful o w n j → NumbersFree w.tree.shape j
-begin_numbers o w n j al nu eq l = by (subst (NumbersHold w.tree.shape (last_number w.batches)) eq nu)
+begin_numbers o w n j al nu eq l = by (subst (NumbersHold w.tree.shape (last_of w)) eq nu)
   where
-    by : InNumbers w.tree.shape (last_number w.batches) n → NumbersFree w.tree.shape j
+    by : InNumbers w.tree.shape (last_of w) n → NumbersFree w.tree.shape j
     by x = record {
       own = λ m a b. and_from _ _ (eq-eqb (session_of m) w.tree.shape.session (omega (arith, a, b, l.numbers, l.room))) (lt-ltb 0 (count_of m) (omega (arith, a, b, l.numbers, l.room)));
       unused = λ m a b. elim (cases_Bool (has_number m w.tree.shape.used)) [ inl there ↦ absurd (omega (arith, x.used m there, a, l.numbers)) | inr absent ↦ absent ];

@@ -18,7 +18,7 @@ use Rattle.flsm_model.specs.declared.job.Job.{Job}
 use Rattle.flsm_model.specs.Shape.{grown, has_number, guards_at, inputs_of}
 use Rattle.flsm_model.specs.Fits.{is_live}
 use Rattle.flsm_model.specs.Trees.{Table, content_of, merged, installed, written_by, tables_without}
-use Rattle.flsm_model.specs.Events.{Event, Opened, Commit, Synced, Look, Hold, Release, Freeze, Begin, Done, Short, JournalFault, Stop, Session, Standing, Running, base}
+use Rattle.flsm_model.specs.Events.{Event, Opened, Commit, Synced, Look, Hold, Release, Freeze, Begin, Done, Short, JournalFault, Stop, Session, Standing, last_of, Running, base}
 use Rattle.flsm_model.specs.Steps.{flushed, without_job, step, run}
 use Rattle.flsm_model.specs.Claims.{jobs_conflict}
 use Rattle.flsm_model.specs.Outcomes.{frozen_entries, outcome, outcome_at, IsOutcome}
@@ -203,7 +203,7 @@ beside_of : (o : Column) (w : Standing) (n : Session) (actor : ℕ) (e : Edit) (
 beside_of o w n actor e r st eq a i =
     let out = job_in n.running actor (λ k. IsOutcome o w n k e) a.1 in
     let jo = jobs_of o w n st eq in
-    let num : InNumbers w.tree.shape (last_number w.batches) n = subst (NumbersHold w.tree.shape (last_number w.batches)) eq st.numbers in
+    let num : InNumbers w.tree.shape (last_of w) n = subst (NumbersHold w.tree.shape (last_of w)) eq st.numbers in
     let p = in_filter (λ (z : Running). not (z.0 == actor)) r n.running i in
     let ne : r.0 ≢ actor = eqb-false r.0 actor (not-true _ p.1) in
     let ne2 : actor ≢ r.0 = λ q. ne (sym q) in (

@@ -30,7 +30,7 @@ use Rattle.flsm_model.proofs.Places.{Placed, Within, placed_step, placed_base, s
 use Rattle.flsm_model.proofs.Shown.{above_low}
 use Rattle.flsm_model.proofs.Histories.{Holds, holds_step, job_in, within}
 use Rattle.flsm_model.proofs.Base.{sound_base, deep}
-use Rattle.flsm_model.proofs.MapLaw.{Shows, SessionShows, shows_step, still_frozen, to_after}
+use Rattle.flsm_model.proofs.MapLaw.{Shows, SessionShows, shows_step, still_frozen, to_after, last_same}
 use Rattle.flsm_model.proofs.MapBase.{shows_base}
 use Rattle.flsm_model.proofs.Structure.{Agree, tree_same, described_same, fit_push, tree_push, described_push, filter_none, agree_push, dropped_high}
 
@@ -211,7 +211,7 @@ told_step o w (Freeze m) hold pl sh h a =
       books = h.books;
       boundary = h.boundary;
       frozen = frozen_map w.batches w.batches w.session _ (λ n e b k q.
-          subst (λ z. is_boundary z w.batches ≡ true) (sym (within o w (Freeze m) n e a).3 ∙ some_same m k q) (boundary_of_last w.batches)) h.frozen;
+          subst (λ z. is_boundary z w.batches ≡ true) (sym (last_same w sh.to_last) ∙ sym (within o w (Freeze m) n e a).3 ∙ some_same m k q) (boundary_of_last w.batches)) h.frozen;
     }
   where
     some_same : (k q : ℕ) → Some k ≡ Some q → k ≡ q

@@ -32,7 +32,7 @@ pub stands_step : (o : Column) (w : Standing) (e : Event) → 0 < o.last_level �
 stands_step o w e d h a =
     record {
       all = all_step o w e d h.all a;
-      numbers = numbers_step o w e h.all h.numbers a;
+      numbers = numbers_step o w e h.numbers a;
       each = each_step o (Calm o) (undisturbed_starts o) (λ v n j k f al nu eq en uj uk. undisturbed_stays o v n j k f al en uj uk) w e h.all h.numbers h.each a;
     }
 

@@ -1,5 +1,5 @@
 -- What happens to a store, one event after another, and what stands after it.
-use Rattle.std.specs.Prelude.{ℕ, List, [], Option, None}
+use Rattle.std.specs.Prelude.{ℕ, max, List, [], Option, None}
 use Rattle.peb_base.specs.Batches.{Batches, last_number}
 use Rattle.peb_base.specs.declared.entry.Entry.{Entry}
 use Rattle.peb_base.specs.declared.op.Op.{Op}
@@ -54,6 +54,10 @@ pub record Standing : Type 0 where
   pub attempts : List Attempt
   pub session : Option Session
 
+-- the last number: of the batches, or of the last flush where that is greater, as over tables of which nothing is read
+abbrev pub last_of : Standing → ℕ
+last_of w = max (last_number w.batches) w.tree.shape.to
+
 -- before the first event, over batches and a record
 abbrev pub base : Column → Batches → Record → Standing
 base o bs r = record { batches = bs; edits = r; tree = tree_of o bs r; attempts = []; session = None }
@@ -63,7 +67,7 @@ abbrev pub new_session : Standing → ℕ → Session
 new_session w log =
     record {
       log = log;
-      stable = last_number w.batches;
+      stable = last_of w;
       committed = 0;
       reserved = 0;
       freezes = 0;

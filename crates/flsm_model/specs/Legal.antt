@@ -1,6 +1,6 @@
 -- Which histories are legal.
 use Rattle.std.specs.Prelude.{◌≡◌, ℕ, suc, ◌+◌, ◌*◌, ◌^◌, ◌<◌, ◌≤◌, true, List, [], ◌∷◌, length, ◌==◌, Option, Some, None, IsSomeAnd, unwrap_or, ⊤}
-use Rattle.peb_base.specs.Batches.{Batches, last_number, is_boundary}
+use Rattle.peb_base.specs.Batches.{Batches, is_boundary}
 use Rattle.peb_base.specs.Profiles.{column, Column}
 use Rattle.peb_base.specs.Tables.{table_bytes}
 use Rattle.peb_base.specs.declared.profile.Profile.{Profile}
@@ -10,7 +10,7 @@ use Rattle.flsm_model.specs.Shape.{Record}
 use Rattle.flsm_model.specs.Fits.{fits}
 use Rattle.flsm_model.specs.Writes.{total, one_if}
 use Rattle.flsm_model.specs.TrueRecord.{IsTrue}
-use Rattle.flsm_model.specs.Events.{Event, Opened, Commit, Synced, Look, Hold, Release, Freeze, Begin, Done, Short, JournalFault, Stop, Running, Session, Standing, base}
+use Rattle.flsm_model.specs.Events.{Event, Opened, Commit, Synced, Look, Hold, Release, Freeze, Begin, Done, Short, JournalFault, Stop, Running, Session, Standing, last_of, base}
 use Rattle.flsm_model.specs.Jobs.{IsLawful}
 use Rattle.flsm_model.specs.Outcomes.{outcome, IsOutcome}
 use Rattle.flsm_model.specs.Steps.{job_of, is_held, step, run}
@@ -38,12 +38,12 @@ AllowedIn o w n (Opened session log) = ⊥
 AllowedIn o w n (Commit actor first ops) =
     (n.faulted ≡ None) × (1 ≤ length ops) × (length ops ≤ 1000) × (first ≡ w.tree.shape.session * 2 ^ 40 + 1 + n.committed)
     × (n.committed + length ops < 2 ^ 40)
-AllowedIn o w n (Synced actor m) = (n.faulted ≡ None) × (m ≡ last_number w.batches)
-AllowedIn o w n (Look actor m) = m ≡ last_number w.batches
-AllowedIn o w n (Hold actor m) = (m ≡ last_number w.batches) × (holds_of actor n.held < 64)
+AllowedIn o w n (Synced actor m) = (n.faulted ≡ None) × (m ≡ last_of w)
+AllowedIn o w n (Look actor m) = m ≡ last_of w
+AllowedIn o w n (Hold actor m) = (m ≡ last_of w) × (holds_of actor n.held < 64)
 AllowedIn o w n (Release actor m) = is_held (actor, m) n.held ≡ true
 AllowedIn o w n (Freeze m) =
-    (n.faulted ≡ None) × (n.frozen ≡ None) × (n.mem_from < last_number w.batches) × (m ≡ last_number w.batches)
+    (n.faulted ≡ None) × (n.frozen ≡ None) × (n.mem_from < last_of w) × (m ≡ last_of w)
 AllowedIn o w n (Begin actor job) = (n.faulted ≡ None) × (job_of n.running actor ≡ None) × IsLawful o w n job
 AllowedIn o w n (Done actor e) = (n.faulted ≡ None) × IsSomeAnd (job_of n.running actor) (λ j. IsOutcome o w n j e)
 AllowedIn o w n (Short actor cause bytes) =

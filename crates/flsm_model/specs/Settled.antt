@@ -1,10 +1,10 @@
 -- When the store is settled: nothing waits to be flushed or compacted, and memtables were frozen in time.
 use Rattle.std.specs.Prelude.{◌≡◌, ℕ, ◌+◌, ◌≤◌, Bool, true, false, ◌&&◌, ◌||◌, not, List, [], ◌∷◌, length, nat_le, ◌==◌, Option, Some, None, is_none, sum_by}
 use Rattle.peb_base.specs.Profiles.{Column}
-use Rattle.peb_base.specs.Batches.{Batches, last_number, entries_of}
+use Rattle.peb_base.specs.Batches.{entries_of}
 use Rattle.peb_base.specs.Entries.{value_of, entries_between}
 use Rattle.peb_base.specs.declared.entry.Entry.{Entry}
-use Rattle.flsm_model.specs.Events.{Event, Commit, Freeze, Session, Standing}
+use Rattle.flsm_model.specs.Events.{Event, Commit, Freeze, Session, Standing, last_of}
 use Rattle.flsm_model.specs.Steps.{step, run}
 use Rattle.flsm_model.specs.Picking.{over_at, due}
 
@@ -18,9 +18,10 @@ none_frozen None = true
 none_frozen (Some n) = is_none n.frozen
 
 -- the memtable has reached its limit, and nothing is frozen
-abbrev pub is_full : Column → Batches → Option Session → Bool
-is_full o bs None = false
-is_full o bs (Some n) = is_none n.frozen && nat_le o.mem_limit (size_of (entries_between n.mem_from (last_number bs) (entries_of bs)))
+abbrev pub is_full : Column → Standing → Option Session → Bool
+is_full o w None = false
+is_full o w (Some n) =
+    is_none n.frozen && nat_le o.mem_limit (size_of (entries_between n.mem_from (last_of w) (entries_of w.batches)))
 
 -- a Freeze comes, and before it no Commit of the actor
 abbrev pub freezes_before : ℕ → List Event → Bool
@@ -34,7 +35,7 @@ abbrev pub freezes_in_time : Column → Standing → List Event → Bool
 freezes_in_time o w [] = true
 freezes_in_time o w (Commit actor first ops ∷ es) =
     let after = step o w (Commit actor first ops) in
-    (not (is_full o after.batches after.session) || freezes_before actor es) && freezes_in_time o after es
+    (not (is_full o after after.session) || freezes_before actor es) && freezes_in_time o after es
 freezes_in_time o w (e ∷ es) = freezes_in_time o (step o w e) es
 
 -- after the history nothing is frozen, level 0 and each guard have room, and memtables were frozen in time
