@@ -42,3 +42,6 @@ pub mod Counting
 pub mod Copied
 pub mod Testing
 pub mod Shaped
+pub mod ShapeLaw
+pub mod NestLaw
+pub mod BoundLaw

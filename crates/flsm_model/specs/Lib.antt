@@ -23,3 +23,4 @@ pub mod Made
 pub mod Picking
 pub mod Settled
 pub mod Told
+pub mod Sound

@@ -11,6 +11,7 @@ ghost use Rattle.flsm_model.specs.Reading.{MapHolds, MapShows};
 ghost use Rattle.flsm_model.specs.Stops.{RecordIsTrue, StopLeavesBase};
 ghost use Rattle.flsm_model.specs.Undisturbed.{JobsUndisturbed};
 ghost use Rattle.flsm_model.specs.Made.{OutcomesFit, OutcomesStay};
+ghost use Rattle.flsm_model.specs.Sound.{RecordsSound, RecordsNested, RecordsBounded};
 
 /// Each entry is in one live table at most.
 pub fn law_place()
@@ -65,4 +66,11 @@ pub fn law_outcomes()
 /// The outcome of each job in flight is what the job makes of its inputs by its own keys, and stays so while the job is in flight.
 pub fn law_stays()
     ensures { Always OutcomesStay }
+{}
+
+/// Each live table of a legal record lies in one guard of its level, and no two have one number.
+pub fn law_shape()
+    ensures sound { RecordsSound }
+    ensures nested { RecordsNested }
+    ensures bounded { RecordsBounded }
 {}
