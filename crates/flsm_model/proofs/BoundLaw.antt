@@ -1,15 +1,12 @@
 -- Logs, flush marks and candidates, for every legal record.
-use Rattle.std.proofs.Common.{◌≡◌, ℕ, suc, ◌+◌, ◌-◌, ◌*◌, ◌^◌, ◌<◌, ◌≤◌, Bool, true, false, ◌&&◌, List, [], ◌∷◌, ◌++◌, Option, Some, None, inl, inr, refl, sym, ◌∙◌, ap, subst, arith}
+use Rattle.std.proofs.Common.{◌≡◌, ℕ, ◌+◌, ◌*◌, ◌^◌, ◌<◌, ◌≤◌, true, [], ◌∷◌, Option, Some, None, inl, inr, sym, ap, arith}
 use Rattle.std.proofs.lemmas.Bool.{and_parts, true≢false, eqb-true, ltb-true, leb-true}
 use Rattle.peb_base.specs.Choice.{level_of}
 use Rattle.peb_base.specs.Profiles.{column, Column}
-use Rattle.peb_base.specs.declared.profile.Profile.{Profile}
-use Rattle.flsm_model.specs.declared.chosen.Chosen.{Chosen}
 use Rattle.flsm_model.specs.declared.edit.Edit.{Edit}
 use Rattle.flsm_model.specs.declared.edit.Edit.TheVariants.{Open, Flush, Move, Cut, Merge}
 use Rattle.flsm_model.specs.Shape.{Record, Shape, empty_shape, grown, shape_from}
 use Rattle.flsm_model.specs.Fits.{fits, fit_from, is_choice, is_level}
-use Rattle.flsm_model.specs.TrueRecord.{IsIn}
 use Rattle.flsm_model.specs.Sound.{IsBounded, RecordsBounded}
 use Rattle.flsm_model.proofs.Lists.{in_append, all_in}
 
@@ -50,9 +47,12 @@ bound_step o s (Move level floor inputs outputs) f h = record { least = h.least;
 bound_step o s (Cut level keys inputs outputs) f h = record { least = h.least; room = h.room; flushed = h.flushed; choices = h.choices }
 bound_step o s (Merge floor whole inputs outputs) f h = record { least = h.least; room = h.room; flushed = h.flushed; choices = h.choices }
 
-bound_from : (o : Column) (s : Shape) (r : Record) → fit_from o s r ≡ true → IsBounded o s → IsBounded o (shape_from s r)
+pub bound_from : (o : Column) (s : Shape) (r : Record) → fit_from o s r ≡ true → IsBounded o s → IsBounded o (shape_from s r)
 bound_from o s [] f h = h
 bound_from o s (e ∷ es) f h = let p = and_parts (fits o s e) _ f in bound_from o (grown s e) es p.1 (bound_step o s e p.0 h)
 
+pub empty_bounded : (o : Column) → IsBounded o (empty_shape o)
+empty_bounded o = record { least = omega arith; room = omega arith; flushed = omega arith; choices = λ c i. absurd i }
+
 pub records_bounded : RecordsBounded
-records_bounded p r legal = bound_from (column p) (empty_shape (column p)) r legal (record { least = omega arith; room = omega arith; flushed = omega arith; choices = λ c i. absurd i })
+records_bounded p r legal = bound_from (column p) (empty_shape (column p)) r legal (empty_bounded (column p))

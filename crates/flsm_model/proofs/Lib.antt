@@ -45,3 +45,4 @@ pub mod Shaped
 pub mod ShapeLaw
 pub mod NestLaw
 pub mod BoundLaw
+pub mod Suits

@@ -1,5 +1,5 @@
 -- The law of the map over whole histories.
-use Rattle.std.proofs.Common.{◌≡◌, ℕ, ◌+◌, ◌<◌, ◌≤◌, false, not, List, [], ◌∷◌, ◌++◌, length, ◌⊎◌, inl, inr, refl, sym, ap, subst, arith}
+use Rattle.std.proofs.Common.{◌≡◌, ℕ, ◌+◌, ◌<◌, ◌≤◌, false, not, List, [], ◌∷◌, ◌++◌, length, ◌⊎◌, inl, inr, refl, sym, ap, subst, arith, true}
 use Rattle.std.specs.Prelude.{◌==◌, ◌↔◌, Option, Some, None, option_map, unwrap_or, ⊤}
 use Rattle.peb_base.specs.Batches.{Batches, batches_to, last_number}
 use Rattle.peb_base.specs.declared.entry.Entry.{Entry}
@@ -79,11 +79,11 @@ session_only o w f g h = record { one = h.one; levels = h.levels; to_last = h.to
     less m (Some n) e x at = elim at [ inl a ↦ inl a | inr b ↦ inr (rw e (omega (arith, (g n e x).1))) ]
 
 -- an outcome, and the batches as they are
-outcome_step : (o : Column) (w : Standing) (n : Session) (rs : List Running) (actor : ℕ) (j : Job) (e : Edit) → IsOutcome o w n j e → Sound o w.tree → InFlight o w.tree j
+outcome_step : (o : Column) (w : Standing) (n : Session) (rs : List Running) (actor : ℕ) (j : Job) (e : Edit) → w.told ≡ true → IsOutcome o w n j e → Sound o w.tree → InFlight o w.tree j
     → IsIn (actor, j) rs → FloorsBelow rs (floor_of n.held (last_number w.batches)) → w.session ≡ Some n → Shows o w
     → (m : ℕ) → ((installed o w.batches w.tree e).shape.to ≤ m) ⊎ (floor_of n.held (last_number w.batches) ≤ m) → ShowsAt (installed o w.batches w.tree e) w.batches m
-outcome_step o w n rs actor j e out s run i fl eq h =
-    outcome_shows o w.batches w.tree n j e (floor_of n.held (last_number w.batches)) out.same out.fit out.holds s run h.one h.levels (fl (actor, j) i)
+outcome_step o w n rs actor j e tells out s run i fl eq h =
+    outcome_shows o w.batches w.tree n j e (floor_of n.held (last_number w.batches)) out.formed.same out.formed.fit (out.holds tells) s run h.one h.levels (fl (actor, j) i)
     (λ m at. h.shown m (elim at [ inl a ↦ inl a | inr b ↦ inr (rw eq b) ]))
 
 -- the last flush after an outcome is stable
@@ -248,10 +248,10 @@ shows_step o w (Done actor e) hold pl h a = by w.session refl a hold.jobs h.sess
     by (Some n) eq x j y =
         let out = job_in n.running actor (λ k. IsOutcome o w n k e) x.1 in
         let mine : InFlight o w.tree out.0 = j.now.each (actor, out.0) out.1 in
-        let to2 : (installed o w.batches w.tree e).shape.to ≤ n.stable = to_after o w n out.0 e out.2.same y in
+        let to2 : (installed o w.batches w.tree e).shape.to ≤ n.stable = to_after o w n out.0 e out.2.formed.same y in
         record {
-          one = one_step o w.batches w.tree e (fresh_rows o w.tree.shape e out.2.fit) (known_tables o w.tree hold.sound) h.one;
-          levels = levels_step o w.batches w.tree e out.2.fit h.levels;
+          one = one_step o w.batches w.tree e (fresh_rows o w.tree.shape e out.2.formed.fit) (known_tables o w.tree hold.sound) h.one;
+          levels = levels_step o w.batches w.tree e out.2.formed.fit h.levels;
           to_last = omega (arith, to2, y.stable_last);
           session = rw eq (record {
             stable = to2;
@@ -260,7 +260,7 @@ shows_step o w (Done actor e) hold pl h a = by w.session refl a hold.jobs h.sess
             floors = λ r i. y.floors r (in_filter (λ z. not (z.0 == actor)) r n.running i).0;
             faults = y.faults;
           });
-          shown = λ m at. outcome_step o w n n.running actor out.0 e out.2 hold.sound mine out.1 y.floors eq h m
+          shown = λ m at. outcome_step o w n n.running actor out.0 e hold.tells out.2 hold.sound mine out.1 y.floors eq h m
               (elim at [ inl b ↦ inl b | inr b ↦ inr (subst (λ s. Readable (last_number w.batches) (option_map {T = Session} {U = Session} (λ q. record q { running = without_job q.running actor; frozen = flushed e q.frozen }) s) m) eq b) ]);
         }
 shows_step o w (Short actor cause bytes) hold pl h a =
@@ -289,13 +289,13 @@ shows_step o w (Stop k (Some e)) hold pl h a = by w.session refl a hold.jobs h.s
     by (Some n) eq x j y =
         let out = job_in (last_running n) x.2.0 (λ q. IsOutcome o w n q e) x.2.1 in
         let mine : InFlight o w.tree out.0 = (last_jobs o w.tree n j).each (x.2.0, out.0) out.1 in
-        let to2 : (installed o w.batches w.tree e).shape.to ≤ n.stable = to_after o w n out.0 e out.2.same y in
+        let to2 : (installed o w.batches w.tree e).shape.to ≤ n.stable = to_after o w n out.0 e out.2.formed.same y in
         let low : (installed o w.batches w.tree e).shape.to ≤ k = omega (arith, to2, x.1) in
         record {
-          one = one_step o w.batches w.tree e (fresh_rows o w.tree.shape e out.2.fit) (known_tables o w.tree hold.sound) h.one;
-          levels = levels_step o w.batches w.tree e out.2.fit h.levels;
+          one = one_step o w.batches w.tree e (fresh_rows o w.tree.shape e out.2.formed.fit) (known_tables o w.tree hold.sound) h.one;
+          levels = levels_step o w.batches w.tree e out.2.formed.fit h.levels;
           to_last = to_kept w.batches k (installed o w.batches w.tree e).shape.to pl.ordered x.0 low;
           session = tt;
           shown = λ m at. same_batches (installed o w.batches w.tree e) w.batches (batches_to k w.batches) m (dropped_same w.batches k (installed o w.batches w.tree e).shape.to pl.ordered x.0 low)
-              (outcome_step o w n (last_running n) x.2.0 out.0 e out.2 hold.sound mine out.1 (last_floors n.faulted n.running _ y.floors y.faults) eq h m (inl (elim at [ inl b ↦ b | inr b ↦ absurd b ])));
+              (outcome_step o w n (last_running n) x.2.0 out.0 e hold.tells out.2 hold.sound mine out.1 (last_floors n.faulted n.running _ y.floors y.faults) eq h m (inl (elim at [ inl b ↦ b | inr b ↦ absurd b ])));
         }

@@ -149,10 +149,10 @@ map_shows p bs r es base_true legal = record { flushed = at_flush; read = at_rea
     o = column p
 
     w : Standing
-    w = run o (base o bs r) es
+    w = run o (base true o bs r) es
 
     all : All o w
-    all = all_run o (base o bs r) es (deep p) (all_base o bs r base_true) legal
+    all = all_run o (base true o bs r) es (deep p) (all_base o bs r base_true) legal
 
     to : ℕ
     to = w.tree.shape.to

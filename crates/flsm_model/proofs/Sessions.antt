@@ -1,8 +1,9 @@
 -- Numbers within a session: of tables, of logs and of what is frozen.
-use Rattle.std.proofs.Common.{◌≡◌, ℕ, ◌+◌, ◌-◌, ◌*◌, ◌^◌, ◌<◌, ◌≤◌, ◌≢◌, Bool, true, false, cond, ◌&&◌, ◌||◌, List, [], ◌∷◌, ◌++◌, map, ◌⊎◌, inl, inr, refl, sym, ◌∙◌, ap, subst, arith}
+use Rattle.std.proofs.Common.{◌≡◌, ℕ, max, length, ◌+◌, ◌-◌, ◌*◌, ◌^◌, ◌<◌, ◌≤◌, ◌≢◌, Bool, true, false, cond, ◌&&◌, ◌||◌, List, [], ◌∷◌, ◌++◌, map, ◌⊎◌, inl, inr, refl, sym, ◌∙◌, ap, subst, arith}
 use Rattle.std.specs.Prelude.{nat_lt, nat_le, ◌==◌, filter, Option, Some, None, option_map, ⊤}
 use Rattle.std.specs.List.{list_all}
 use Rattle.std.proofs.lemmas.Bool.{and_parts, or_cases, eqb-true, ltb-true, leb-true, false≢true}
+use Rattle.peb_base.specs.Batches.{last_number}
 use Rattle.peb_base.specs.declared.table_row.TableRow.{TableRow}
 use Rattle.peb_base.specs.Profiles.{Column}
 use Rattle.flsm_model.specs.declared.edit.Edit.{Edit}
@@ -15,9 +16,9 @@ use Rattle.flsm_model.specs.Events.{Event, Opened, Commit, Synced, Look, Hold, R
 use Rattle.flsm_model.specs.Steps.{flushed, without_job, step}
 use Rattle.flsm_model.specs.Jobs.{numbers_needed, IsLawful}
 use Rattle.flsm_model.specs.Outcomes.{IsEditOf, IsOutcome}
-use Rattle.flsm_model.specs.Legal.{Allowed}
+use Rattle.flsm_model.specs.Legal.{Allowed, last_running}
 use Rattle.flsm_model.specs.TrueRecord.{IsIn}
-use Rattle.flsm_model.proofs.Places.{same_session, not_open}
+use Rattle.flsm_model.proofs.Places.{Within, within_map, same_session, not_open, last_push, last_some}
 use Rattle.flsm_model.proofs.Histories.{job_in, within}
 use Rattle.flsm_model.proofs.MapLaw.{last_grows}
 
@@ -306,7 +307,7 @@ numbers_step o w (Done actor e) h a =
     let used : (m : ℕ) → has_number m (grown w.tree.shape e).used ≡ true → m < top_of w.tree.shape.session n =
     λ m i. elim (has_parts m w.tree.shape.used _ (subst (λ ns. has_number m ns ≡ true) (used_after w.tree.shape e (not_open o w n out.0 e out.2)) i)) [
       | inl b ↦ x.used m b
-      | inr b ↦ omega (arith, (block_of out.0 (outputs_of e) m out.2.numbers b).1, blocks_below _ n.running (actor, out.0) x.blocks out.1)
+      | inr b ↦ omega (arith, (block_of out.0 (outputs_of e) m out.2.formed.numbers b).1, blocks_below _ n.running (actor, out.0) x.blocks out.1)
     ] in
     record {
       positive = rw session x.positive;
@@ -314,7 +315,7 @@ numbers_step o w (Done actor e) h a =
       room = x.room;
       blocks = rw session (blocks_filter _ _ n.running x.blocks);
       faults = rw session x.faults;
-      marks = done n x.marks session (turn w.tree.shape n out.0 e out.2.same);
+      marks = done n x.marks session (turn w.tree.shape n out.0 e out.2.formed.same);
     }) h
   where
     done : (n : Session) → InMarks w.tree.shape (last_of w) (marks_of n) → (grown w.tree.shape e).session ≡ w.tree.shape.session → Turn w.tree.shape n e
@@ -349,3 +350,61 @@ numbers_step o w (Short actor cause bytes) h a =
     same_numbers w _ (λ n x. record { positive = x.positive; used = x.used; room = x.room; blocks = blocks_filter _ _ n.running x.blocks; faults = x.faults; marks = x.marks }) h
 numbers_step o w JournalFault h a = same_numbers w _ (λ n x. record { positive = x.positive; used = x.used; room = x.room; blocks = x.blocks; faults = x.blocks; marks = x.marks }) h
 numbers_step o w (Stop m e) h a = tt
+
+-- ---- numbers of entries
+
+-- what an outcome makes of the last number
+last_stays : (w : Standing) (n : Session) (e : Edit) → InMarks w.tree.shape (last_of w) (marks_of n) → Turn w.tree.shape n e → max (last_number w.batches) (grown w.tree.shape e).to ≡ last_of w
+last_stays w n e x (Stays to log same) = omega (arith, to)
+last_stays w n e x (Flushes k fz to log same) = let z = x.frozen k fz in omega (arith, to, z.at, z.above, x.mem_last)
+
+-- the last number lies within the session
+abbrev pub Spans : Standing → Type 0
+Spans w = Within (last_of w) w.tree.shape.session w.session
+
+-- numbers stay within the sessions that were opened
+pub spans_step : (o : Column) (w : Standing) (e : Event) → Numbers w → Spans w → Allowed o w w.session e → Spans (step o w e)
+spans_step o w (Opened session log) nu h a = by w.session a h
+  where
+    by : (s : Option Session) → Allowed o w s (Opened session log) → Within (last_of w) w.tree.shape.session s → Spans (step o w (Opened session log))
+    by None x y = (omega (arith, x.1, y), omega arith)
+    by (Some n) x y = absurd x
+spans_step o w (Commit actor first ops) nu h a = by w.session refl a h
+  where
+    by : (s : Option Session) → w.session ≡ s → Allowed o w s (Commit actor first ops) → Within (last_of w) w.tree.shape.session s → Spans (step o w (Commit actor first ops))
+    by None eq x y = absurd x
+    by (Some n) eq x y =
+        let last : last_number (w.batches ++ (first, ops) ∷ []) ≤ w.tree.shape.session * 2 ^ 40 + (n.committed + length ops) =
+        last_push w.batches first ops _ (omega (arith, y.0)) (omega (arith, x.3)) in
+        rw eq (omega (arith, last, y.0), x.4)
+spans_step o w (Synced actor m) nu h a = within_map _ _ w.session _ (λ n. refl) h
+spans_step o w (Look actor m) nu h a = h
+spans_step o w (Hold actor m) nu h a = within_map _ _ w.session _ (λ n. refl) h
+spans_step o w (Release actor m) nu h a = within_map _ _ w.session _ (λ n. refl) h
+spans_step o w (Freeze m) nu h a = within_map _ _ w.session _ (λ n. refl) h
+spans_step o w (Begin actor job) nu h a = within_map _ _ w.session _ (λ n. refl) h
+spans_step o w (Done actor e) nu h a = by w.session refl a h nu
+  where
+    by : (s : Option Session) → w.session ≡ s → Allowed o w s (Done actor e) → Within (last_of w) w.tree.shape.session s → NumbersHold w.tree.shape (last_of w) s → Spans (step o w (Done actor e))
+    by None eq x y z = absurd x
+    by (Some n) eq x y z =
+        let out = job_in n.running actor (λ k. IsOutcome o w n k e) x.1 in
+        let same = same_session w.tree.shape e (not_open o w n out.0 e out.2) in
+        let last = last_stays w n e z.marks (turn w.tree.shape n out.0 e out.2.formed.same) in
+        rw (eq, same) (omega (arith, last, y.0), y.1)
+spans_step o w (Short actor cause bytes) nu h a = within_map _ _ w.session _ (λ n. refl) h
+spans_step o w JournalFault nu h a = within_map _ _ w.session _ (λ n. refl) h
+spans_step o w (Stop m None) nu h a = by w.session a h
+  where
+    by : (s : Option Session) → Allowed o w s (Stop m None) → Within (last_of w) w.tree.shape.session s → Spans (step o w (Stop m None))
+    by None x y = absurd x
+    by (Some n) x y = omega (arith, last_some m w.batches, y.0, y.1)
+spans_step o w (Stop m (Some e)) nu h a = by w.session a h nu
+  where
+    by : (s : Option Session) → Allowed o w s (Stop m (Some e)) → Within (last_of w) w.tree.shape.session s → NumbersHold w.tree.shape (last_of w) s → Spans (step o w (Stop m (Some e)))
+    by None x y z = absurd x
+    by (Some n) x y z =
+        let out = job_in (last_running n) x.2.0 (λ k. IsOutcome o w n k e) x.2.1 in
+        let same = same_session w.tree.shape e (not_open o w n out.0 e out.2) in
+        let last = last_stays w n e z.marks (turn w.tree.shape n out.0 e out.2.formed.same) in
+        rw same (omega (arith, last_some m w.batches, last, y.0, y.1))

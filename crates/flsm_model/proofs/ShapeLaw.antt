@@ -1,19 +1,17 @@
 -- What every legal record leaves.
-use Rattle.std.proofs.Common.{◌≡◌, ◌≢◌, ℕ, ◌+◌, ◌<◌, ◌≤◌, Bool, true, false, cond, ◌&&◌, ◌||◌, not, List, [], ◌∷◌, ◌++◌, length, ◌⊎◌, inl, inr, refl, sym, ◌∙◌, ap, subst, arith}
+use Rattle.std.proofs.Common.{◌≡◌, ◌≢◌, ℕ, ◌<◌, Bool, true, false, cond, ◌||◌, not, List, [], ◌∷◌, ◌++◌, ◌⊎◌, inl, inr, refl, sym, ◌∙◌, ap, subst, arith}
 use Rattle.std.specs.Prelude.{map, filter, ◌==◌}
-use Rattle.std.proofs.lemmas.Bool.{and_parts, and_from, true≢false, eqb-true, ltb-true, cases_eq, eq-eqb}
-use Rattle.peb_base.specs.Numbers.{session_of, count_of}
+use Rattle.std.proofs.lemmas.Bool.{and_parts, and_from, true≢false, eqb-true, ltb-true, eq-eqb}
+use Rattle.peb_base.specs.Numbers.{session_of}
 use Rattle.peb_base.specs.Keys.{key_le}
 use Rattle.peb_base.specs.Profiles.{column, Column}
-use Rattle.peb_base.specs.declared.profile.Profile.{Profile}
-use Rattle.peb_base.specs.declared.profile.Profile.TheVariants.{Normal, Small}
 use Rattle.peb_base.specs.declared.table_row.TableRow.{TableRow}
 use Rattle.flsm_model.specs.declared.edit.Edit.{Edit}
 use Rattle.flsm_model.specs.declared.edit.Edit.TheVariants.{Open, Flush, Move, Cut, Merge}
-use Rattle.flsm_model.specs.Shape.{Record, Shape, empty_shape, grown, shape_from, shape_of, has_number, rows_without, inputs_of, outputs_of}
-use Rattle.flsm_model.specs.Fits.{fits, fit_from, is_legal_record, is_new, is_row, is_of_session, rows_are_new, numbers_differ}
+use Rattle.flsm_model.specs.Shape.{Record, Shape, empty_shape, grown, shape_from, shape_of, has_number, rows_without}
+use Rattle.flsm_model.specs.Fits.{fits, fit_from, is_new, rows_are_new, numbers_differ}
 use Rattle.flsm_model.specs.TrueRecord.{IsIn}
-use Rattle.flsm_model.specs.Sound.{NumbersSound, IsSound, RecordsSound}
+use Rattle.flsm_model.specs.Sound.{NumbersSound, RecordsSound}
 use Rattle.flsm_model.proofs.Facts.{move_facts, flush_facts, cut_facts, merge_facts}
 use Rattle.flsm_model.proofs.Base.{kept_empty}
 use Rattle.flsm_model.proofs.InGuards.{InGuard, InGuards, in_guards_step}

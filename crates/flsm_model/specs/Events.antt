@@ -1,5 +1,5 @@
 -- What happens to a store, one event after another, and what stands after it.
-use Rattle.std.specs.Prelude.{ℕ, max, List, [], Option, None}
+use Rattle.std.specs.Prelude.{ℕ, max, Bool, List, [], Option, None}
 use Rattle.peb_base.specs.Batches.{Batches, last_number}
 use Rattle.peb_base.specs.declared.entry.Entry.{Entry}
 use Rattle.peb_base.specs.declared.op.Op.{Op}
@@ -48,6 +48,7 @@ Attempt = ℕ × List (List Entry)
 
 -- what stands after a history
 pub record Standing : Type 0 where
+  pub told : Bool  -- whether the entries of its tables are known: over devices that tell their bytes
   pub batches : Batches
   pub edits : Record
   pub tree : Tree
@@ -59,8 +60,8 @@ abbrev pub last_of : Standing → ℕ
 last_of w = max (last_number w.batches) w.tree.shape.to
 
 -- before the first event, over batches and a record
-abbrev pub base : Column → Batches → Record → Standing
-base o bs r = record { batches = bs; edits = r; tree = tree_of o bs r; attempts = []; session = None }
+abbrev pub base : Bool → Column → Batches → Record → Standing
+base told o bs r = record { told = told; batches = bs; edits = r; tree = tree_of o bs r; attempts = []; session = None }
 
 -- a session right after its opening
 abbrev pub new_session : Standing → ℕ → Session

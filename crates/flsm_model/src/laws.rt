@@ -4,11 +4,11 @@
 //! them. Jobs in flight, jobs that were cut short, faults of the journal and stops are all part of such a history. Since each front of a
 //! legal history is legal, a law holds at every moment.
 
-ghost use Rattle.flsm_model.specs.Legal.{Always};
+ghost use Rattle.flsm_model.specs.Legal.{Always, AlwaysFormed};
 ghost use Rattle.flsm_model.specs.Placing.{OnePlace, OrderHolds, PlaceInGuards, AlwaysCut};
 ghost use Rattle.flsm_model.specs.Bounds.{WrittenOnce, RecordBound};
 ghost use Rattle.flsm_model.specs.Reading.{MapHolds, MapShows};
-ghost use Rattle.flsm_model.specs.Stops.{RecordIsTrue, StopLeavesBase};
+ghost use Rattle.flsm_model.specs.Stops.{RecordIsLegal, RecordIsTrue, StopLeavesBase};
 ghost use Rattle.flsm_model.specs.Undisturbed.{JobsUndisturbed};
 ghost use Rattle.flsm_model.specs.Made.{OutcomesFit, OutcomesStay};
 ghost use Rattle.flsm_model.specs.Sound.{RecordsSound, RecordsNested, RecordsBounded};
@@ -26,7 +26,7 @@ pub fn law_order()
 /// Each live table below level 0 lies in one guard's range of its level, and a compaction's inputs have no put of a candidate of the next
 /// level that isn't a guard there.
 pub fn law_guards()
-    ensures placed { Always PlaceInGuards }
+    ensures placed { AlwaysFormed PlaceInGuards }
     ensures cut { AlwaysCut }
 {}
 
@@ -43,9 +43,10 @@ pub fn law_bound()
     ensures edits { RecordBound }
 {}
 
-/// The record is true of the batches, and the tree is the one that the record spells.
+/// The record is legal, and true of the batches where contents are known; the tree is the one that the record spells.
 pub fn law_record()
-    ensures { Always RecordIsTrue }
+    ensures legal { AlwaysFormed RecordIsLegal }
+    ensures holds { Always RecordIsTrue }
 {}
 
 /// What stands where no session is open is a true base, and below the limit of sessions the next one may be opened.
@@ -55,12 +56,12 @@ pub fn law_stop()
 
 /// No claims of two jobs in flight conflict, and each such job still has its range, its inputs, its keys and its numbers.
 pub fn law_jobs()
-    ensures { Always JobsUndisturbed }
+    ensures { AlwaysFormed JobsUndisturbed }
 {}
 
 /// What a job in flight makes fits the record, whatever other jobs did since it began.
 pub fn law_outcomes()
-    ensures { Always OutcomesFit }
+    ensures { AlwaysFormed OutcomesFit }
 {}
 
 /// The outcome of each job in flight is what the job makes of its inputs by its own keys, and stays so while the job is in flight.
