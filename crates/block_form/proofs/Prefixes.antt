@@ -10,7 +10,7 @@ use Rattle.std.proofs.lemmas.Cmp.{tied_itself, nat_cmp_total}
 use Rattle.peb_base.specs.Keys.{Bytes}
 use Rattle.peb_base.specs.EntryLaws.{decided, comes_before_by}
 use Rattle.peb_base.specs.Entries.{value_of, comes_before, IsEntry}
-use Rattle.peb_base.specs.Tables.{common_prefix, shared_bytes}
+use Rattle.peb_base.specs.Tables.{common_prefix, shared_length}
 use Rattle.peb_base.specs.declared.entry.Entry.{Entry}
 use Rattle.block_form.specs.declared.head.Head.{Head}
 use Rattle.block_form.specs.Parts.{Parts, parts_bytes, FitsParts, head_bytes, head_of_parts}
@@ -68,21 +68,21 @@ cmp-after (suc n) [] ys h = absurd (omega arith)
 cmp-after (suc n) (x ∷ xs) ys h =
     ap (λ o. ordering_then o (slice_cmp nat_cmp xs (take n xs ++ ys))) (tied_itself nat_cmp_total x) ∙ cmp-after n xs ys (omega arith)
 
-pub shared-left : (place : ℕ) (before key : Bytes) → shared_bytes place before key ≤ length before
+pub shared-left : (place : ℕ) (before key : Bytes) → shared_length place before key ≤ length before
 shared-left place before key = by (is_restart place)
   where
     by : (b : Bool) → (if b then 0 else common_prefix before key) ≤ length before
     by true = omega arith
     by false = prefix-left before key
 
-pub shared-right : (place : ℕ) (before key : Bytes) → shared_bytes place before key ≤ length key
+pub shared-right : (place : ℕ) (before key : Bytes) → shared_length place before key ≤ length key
 shared-right place before key = by (is_restart place)
   where
     by : (b : Bool) → (if b then 0 else common_prefix before key) ≤ length key
     by true = omega arith
     by false = prefix-right before key
 
-pub shared-take : (place : ℕ) (before key : Bytes) → take (shared_bytes place before key) before ≡ take (shared_bytes place before key) key
+pub shared-take : (place : ℕ) (before key : Bytes) → take (shared_length place before key) before ≡ take (shared_length place before key) key
 shared-take place before key = by (is_restart place)
   where
     by : (b : Bool) → take (if b then 0 else common_prefix before key) before ≡ take (if b then 0 else common_prefix before key) key
@@ -92,12 +92,12 @@ shared-take place before key = by (is_restart place)
 -- the key is what it shares and the rest
 pub entry_again : (place : ℕ) (before : Bytes) (e : Entry) → entry_from before (parts_at place before e) ≡ e
 entry_again place before e =
-    let n = shared_bytes place before e.key in
+    let n = shared_length place before e.key in
     let key : take n before ++ drop n e.key ≡ e.key = ap (λ l. l ++ drop n e.key) (shared-take place before e.key) ∙ take-append-drop n e.key in
     λ i. record { key = key i; number = e.number; change = e.change }
 
 -- parts of which the shared part is the longest are those of their entry
-pub parts_once : (place : ℕ) (before : Bytes) (p : Parts) → p.shared ≤ length before → shared_bytes place before (take p.shared before ++ p.rest) ≡ p.shared
+pub parts_once : (place : ℕ) (before : Bytes) (p : Parts) → p.shared ≤ length before → shared_length place before (take p.shared before ++ p.rest) ≡ p.shared
     → parts_at place before (entry_from before p) ≡ p
 parts_once place before p kept longest =
     let rest : drop p.shared (take p.shared before ++ p.rest) ≡ p.rest = drop_at (take p.shared before) p.rest p.shared (length-take-le p.shared before kept) in
@@ -108,7 +108,7 @@ pub parts_fit : (place : ℕ) (before : Bytes) (e : Entry) → IsEntry e → Fit
 parts_fit place before e is =
     record {
       shared = omega (arith, shared-right place before e.key, is.key);
-      rest = omega (arith, length-drop (shared_bytes place before e.key) e.key, is.key);
+      rest = omega (arith, length-drop (shared_length place before e.key) e.key, is.key);
       number = omega (arith, is.number);
       value = omega (arith, is.value);
     }
@@ -123,7 +123,7 @@ meets_own place before above e p is after same = subst (λ (q : Parts). Meets pl
     own =
         record {
           kept = shared-left place before e.key;
-          longest = ap (λ (f : Entry). shared_bytes place before f.key) again;
+          longest = ap (λ (f : Entry). shared_length place before f.key) again;
           entry = subst IsEntry (sym again) is;
           after = ap (λ (f : Entry). comes_before before above f.key f.number) again ∙ after;
         }
@@ -165,7 +165,7 @@ after_is before rest shared above number o kept e =
     comes_before_by before above (take shared before ++ rest) number ∙ ap (λ q. decided q (nat_lt number above)) (cmp-after shared before rest kept ∙ sym e)
 
 pub shared_plain : (place shared : ℕ) (before rest : Bytes) → is_restart place ≡ false → shared ≤ length before
-    → shared_bytes place before (take shared before ++ rest) ≡ shared + common_prefix (drop shared before) rest
+    → shared_length place before (take shared before ++ rest) ≡ shared + common_prefix (drop shared before) rest
 shared_plain place shared before rest plain kept =
     ap (λ b. if b then 0 else common_prefix before (take shared before ++ rest)) plain ∙ prefix-after shared before rest kept
 
@@ -201,9 +201,9 @@ pub known_kept : (place : ℕ) (before : Bytes) (bytes behind after : List ℕ) 
     → (p.shared ≤ length before) × (p.shared + length p.rest ≤ 1024)
 known_kept place before bytes behind after e p fits found is spelled =
     subst (λ (q : Parts). (q.shared ≤ length before) × (q.shared + length q.rest ≤ 1024)) (one_front place before bytes behind after e p fits found is spelled).0
-    (shared-left place before e.key, omega (arith, length-drop (shared_bytes place before e.key) e.key, shared-right place before e.key, is.key))
+    (shared-left place before e.key, omega (arith, length-drop (shared_length place before e.key) e.key, shared-right place before e.key, is.key))
 
-pub entry-spelled : (place : ℕ) (before : Bytes) (e : Entry) (out head rest value : List ℕ) (h : Head) → head ≡ head_bytes h → h ≡ head_of_parts (parts_at place before e) → rest ≡ drop (shared_bytes place before e.key) e.key → value ≡ value_of e.change
+pub entry-spelled : (place : ℕ) (before : Bytes) (e : Entry) (out head rest value : List ℕ) (h : Head) → head ≡ head_bytes h → h ≡ head_of_parts (parts_at place before e) → rest ≡ drop (shared_length place before e.key) e.key → value ≡ value_of e.change
     → ((out ++ head) ++ rest) ++ value ≡ out ++ entry_bytes place before e
 unfolding entry_bytes parts_bytes
 entry-spelled place before e out head rest value h a b c d =
@@ -215,10 +215,10 @@ entry-spelled place before e out head rest value h a b c d =
     p = parts_at place before e
 
 pub length-entry-parts : (place : ℕ) (before : Bytes) (e : Entry)
-    → length (entry_bytes place before e) ≡ 17 + (length (drop (shared_bytes place before e.key) e.key) + length (value_of e.change))
+    → length (entry_bytes place before e) ≡ 17 + (length (drop (shared_length place before e.key) e.key) + length (value_of e.change))
 unfolding entry_bytes
 length-entry-parts place before e = length-parts (parts_at place before e)
 
 pub entry-small : (place : ℕ) (before : Bytes) (e : Entry) → IsEntry e → length (entry_bytes place before e) ≤ 33809
 entry-small place before e is =
-    omega (arith, length-entry-parts place before e, length-drop (shared_bytes place before e.key) e.key, is.key, is.value)
+    omega (arith, length-entry-parts place before e, length-drop (shared_length place before e.key) e.key, is.key, is.value)

@@ -3,7 +3,7 @@ use Rattle.std.specs.Prelude.{◌≡◌, ℕ, suc, ◌+◌, ◌<◌, ◌≤◌, 
 use Rattle.std.specs.List.{flat_map}
 use Rattle.byteorder.specs.Endian.{big_bytes}
 use Rattle.peb_base.specs.Keys.{Bytes}
-use Rattle.peb_base.specs.Tables.{shared_bytes}
+use Rattle.peb_base.specs.Tables.{shared_length}
 use Rattle.peb_base.specs.declared.entry.Entry.{Entry}
 use Rattle.peb_base.specs.Entries.{AreSorted}
 use Rattle.block_form.specs.Parts.{Parts, parts_bytes}
@@ -16,8 +16,8 @@ is_restart place = place % 16 == 0
 abbrev pub parts_at : ℕ → Bytes → Entry → Parts
 parts_at place before e =
     record {
-      shared = shared_bytes place before e.key;
-      rest = drop (shared_bytes place before e.key) e.key;
+      shared = shared_length place before e.key;
+      rest = drop (shared_length place before e.key) e.key;
       number = e.number;
       change = e.change;
     }

@@ -5,7 +5,7 @@ use Rattle.peb_base.specs.Keys.{Bytes}
 use Rattle.peb_base.specs.declared.entry.Entry.{Entry}
 use Rattle.peb_base.specs.Entries.{IsEntry, comes_before, AscendFrom, AreSorted}
 use Rattle.block_form.specs.Form.{is_restart, entry_bytes, entries_bytes, restarts, places_bytes}
-use Rattle.peb_base.specs.Tables.{shared_bytes}
+use Rattle.peb_base.specs.Tables.{shared_length}
 use Rattle.block_form.specs.Parts.{Parts, parts_from, behind_from}
 
 -- the entry of these parts, after this key
@@ -15,7 +15,7 @@ entry_from before p = record { key = take p.shared before ++ p.rest; number = p.
 -- the parts are those of an entry at this place, after this key and number
 pub record Meets (place : ℕ) (before : Bytes) (above : ℕ) (p : Parts) : Type 0 where
   pub kept : p.shared ≤ length before
-  pub longest : shared_bytes place before (take p.shared before ++ p.rest) ≡ p.shared
+  pub longest : shared_length place before (take p.shared before ++ p.rest) ≡ p.shared
   pub entry : IsEntry (entry_from before p)
   pub after : comes_before before above (take p.shared before ++ p.rest) p.number ≡ true
 

@@ -3,7 +3,7 @@
 ghost use Rattle.std.specs.Prelude.{◌≡◌, ◌≢◌, ◌↔◌, ◌≤◌, ◌++◌, List, ℕ, true, length, take, IfSome, IfNone, IsTrue};
 ghost use Rattle.peb_base.specs.EntryRefs.{change_of};
 ghost use Rattle.peb_base.specs.Entries.{value_of, comes_before, IsEntry};
-ghost use Rattle.peb_base.specs.Tables.{common_prefix, shared_bytes};
+ghost use Rattle.peb_base.specs.Tables.{common_prefix, shared_length};
 ghost use Rattle.peb_base.specs.declared.entry.Entry.{Entry};
 ghost use Rattle.block_form.specs.Form.{entry_bytes};
 ghost use Rattle.block_form.specs.Parts.{parts_of};
@@ -29,7 +29,7 @@ fn differs(before: &[u8], rest: &[u8]) -> bool
 /// The part that is shared is what the entry at this place leaves out.
 fn is_longest(place: usize, before: &[u8], shared: usize, rest: &[u8]) -> bool
     requires { shared ≤ length before.now }
-    ensures { IsTrue result ↔ (shared_bytes place before.now (take shared before.now ++ rest.now) ≡ shared) }
+    ensures { IsTrue result ↔ (shared_length place before.now (take shared before.now ++ rest.now) ≡ shared) }
 {
     if place % 16 == 0 {
         return shared == 0;

@@ -2,7 +2,7 @@
 
 ghost use Rattle.std.specs.Prelude.{◌≡◌, ◌≤◌, ◌+◌, ◌++◌, length};
 ghost use Rattle.peb_base.specs.Entries.{value_of, IsEntry};
-ghost use Rattle.peb_base.specs.Tables.{common_prefix, shared_bytes};
+ghost use Rattle.peb_base.specs.Tables.{common_prefix, shared_length};
 ghost use Rattle.peb_base.specs.EntryRefs.{change_of, entry_of};
 ghost use Rattle.block_form.specs.Building.{put_in};
 ghost use Rattle.block_form.specs.Form.{entry_bytes};
@@ -29,7 +29,7 @@ fn common(before: &[u8], key: &[u8]) -> usize
 
 /// How much of its key the entry at this place leaves out.
 fn shared_len(place: usize, before: &[u8], key: &[u8]) -> usize
-    ensures value { result ≡ shared_bytes place before.now key.now }
+    ensures value { result ≡ shared_length place before.now key.now }
     ensures kept { result ≤ length key.now }
 {
     if place % 16 == 0 {

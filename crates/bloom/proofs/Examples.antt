@@ -1,16 +1,16 @@
 -- The definitions on worked examples.
 use Rattle.std.proofs.Common.{◌≡◌, true, false, [], ◌∷◌, refl}
-use Rattle.peb_base.specs.Tables.{filter_bytes}
+use Rattle.peb_base.specs.Tables.{filter_length}
 use Rattle.bloom.specs.Bits.{number_of, bytes_of}
 use Rattle.bloom.specs.Filter.{is_probe, are_set, may_hold, filter_of}
 
-least : filter_bytes 1 ≡ 8
+least : filter_length 1 ≡ 8
 least = refl
 
-ten : filter_bytes 10 ≡ 13
+ten : filter_length 10 ≡ 13
 ten = refl
 
-most : filter_bytes 1717986918 ≡ 2147483648
+most : filter_length 1717986918 ≡ 2147483648
 most = refl
 
 -- the hash of the key a, and the six bits that it sets among 64

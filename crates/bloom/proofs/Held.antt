@@ -6,7 +6,7 @@ use Rattle.std.proofs.lemmas.List.Elements.{at_from_Contains}
 use Rattle.std.proofs.lemmas.List.Folds.{list_any-append, list_any_at}
 use Rattle.std.proofs.lemmas.Nat.{mod_below}
 use Rattle.std.specs.List.{Contains, list_any}
-use Rattle.peb_base.specs.Tables.{filter_bytes}
+use Rattle.peb_base.specs.Tables.{filter_length}
 use Rattle.bloom.specs.Bits.{bit, bytes_of}
 use Rattle.bloom.specs.Filter.{probe, is_probe, are_set, may_hold, with_hash, filter_of}
 use Rattle.bloom.proofs.BitBytes.{length-bytes, bytes-bit, bytes-same, bytes-none}
@@ -68,7 +68,7 @@ held-stays bytes hash more some was = held (length bytes) _ hash some (λ i with
 
 pub filter-grows : (count : ℕ) (hashes : List ℕ) (hash : ℕ) → with_hash (filter_of count hashes) hash ≡ filter_of count (hashes ++ hash ∷ [])
 filter-grows count hashes hash =
-    let n = filter_bytes count in
+    let n = filter_length count in
     let was = λ (j : ℕ). list_any (λ (h : ℕ). is_probe 6 h (8 * n) j) hashes in
     ap (λ k. bytes_of k (λ j. bit (bytes_of n was) j || is_probe 6 hash (8 * k) j)) (length-bytes n was)
     ∙ bytes-same n (λ j. bit (bytes_of n was) j || is_probe 6 hash (8 * n) j) (λ j. list_any (λ h. is_probe 6 h (8 * n) j) (hashes ++ hash ∷ [])) (λ j within.
@@ -78,10 +78,10 @@ filter-grows count hashes hash =
 pub all-held : (count : ℕ) (hashes : List ℕ) (hash : ℕ) → Contains hashes hash → may_hold (filter_of count hashes) hash ≡ true
 all-held count hashes hash has =
     let at = at_from_Contains hashes hash has in
-    held (filter_bytes count) _ hash (omega arith) (λ i within.
-    let p = probe hash (8 * filter_bytes count) i in
-    list_any_at (λ h. is_probe 6 h (8 * filter_bytes count) p) hashes at.0 hash at.1
-    (ap (λ h. is_probe 6 h (8 * filter_bytes count) p) (at.2 hash) ∙ is-probe 6 hash (8 * filter_bytes count) i within))
+    held (filter_length count) _ hash (omega arith) (λ i within.
+    let p = probe hash (8 * filter_length count) i in
+    list_any_at (λ h. is_probe 6 h (8 * filter_length count) p) hashes at.0 hash at.1
+    (ap (λ h. is_probe 6 h (8 * filter_length count) p) (at.2 hash) ∙ is-probe 6 hash (8 * filter_length count) i within))
 
-pub filter-none : (count len : ℕ) (bytes : List ℕ) → bytes ≡ replicate len 0 → len ≡ filter_bytes count → bytes ≡ filter_of count []
-filter-none count len bytes zeros is = zeros ∙ ap (λ n. replicate n 0) is ∙ bytes-none (filter_bytes count)
+pub filter-none : (count len : ℕ) (bytes : List ℕ) → bytes ≡ replicate len 0 → len ≡ filter_length count → bytes ≡ filter_of count []
+filter-none count len bytes zeros is = zeros ∙ ap (λ n. replicate n 0) is ∙ bytes-none (filter_length count)

@@ -1,7 +1,7 @@
 -- Which bits of a filter are set.
 use Rattle.std.specs.Prelude.{ℕ, zero, suc, ◌+◌, ◌*◌, ◌/◌, ◌%◌, ◌^◌, Bool, true, false, ◌==◌, ◌&&◌, ◌||◌, List, length, bit_or, Option, Some, None, nat_lt, if◌then◌else◌}
 use Rattle.std.specs.List.{list_any}
-use Rattle.peb_base.specs.Tables.{filter_bytes}
+use Rattle.peb_base.specs.Tables.{filter_length}
 use Rattle.bloom.specs.Bits.{bit, bytes_of}
 use Rattle.bloom.specs.declared.filter_fault.FilterFault.{FilterFault}
 use Rattle.bloom.specs.declared.filter_fault.FilterFault.TheVariants.{Form}
@@ -30,7 +30,7 @@ with_hash bytes hash = bytes_of (length bytes) (λ j. bit bytes j || is_probe 6 
 
 -- the filter of so many entries: a bit is set exactly where it is a probe of one of the hashes
 abbrev pub filter_of : ℕ → List ℕ → List ℕ
-filter_of count hashes = bytes_of (filter_bytes count) (λ j. list_any (λ hash. is_probe 6 hash (8 * filter_bytes count) j) hashes)
+filter_of count hashes = bytes_of (filter_length count) (λ j. list_any (λ hash. is_probe 6 hash (8 * filter_length count) j) hashes)
 
 -- bytes of this length are no filter
 abbrev pub filter_fault : ℕ → Option FilterFault

@@ -1,7 +1,7 @@
 -- What the laws of filters say.
 use Rattle.std.specs.Prelude.{◌≡◌, ℕ, ◌*◌, ◌<◌, Bool, true, List, [], ◌∷◌, ◌++◌, length, Contains}
 use Rattle.peb_base.specs.Keys.{AreBytes}
-use Rattle.peb_base.specs.Tables.{filter_bytes}
+use Rattle.peb_base.specs.Tables.{filter_length}
 use Rattle.bloom.specs.Bits.{bit, bytes_of}
 use Rattle.bloom.specs.Filter.{may_hold, with_hash, filter_of}
 
@@ -27,7 +27,7 @@ FilterGrows = (count : ℕ) (hashes : List ℕ) (hash : ℕ) → with_hash (filt
 
 -- a filter has the length for its count of entries
 abbrev pub FilterIsLong : Type 0
-FilterIsLong = (count : ℕ) (hashes : List ℕ) → length (filter_of count hashes) ≡ filter_bytes count
+FilterIsLong = (count : ℕ) (hashes : List ℕ) → length (filter_of count hashes) ≡ filter_length count
 
 -- every hash of a filter may be held
 abbrev pub AllAreHeld : Type 0

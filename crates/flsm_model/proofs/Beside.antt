@@ -15,7 +15,8 @@ use Rattle.flsm_model.specs.declared.job_kind.JobKind.{JobKind}
 use Rattle.flsm_model.specs.declared.job_kind.JobKind.TheVariants.{Flush as FlushJob, Move as MoveJob, Cut as CutJob, Merge as MergeJob}
 use Rattle.flsm_model.specs.declared.job.Job.{Job}
 use Rattle.flsm_model.specs.Shape.{Shape, has_number, outputs_of, grown, guards_at}
-use Rattle.flsm_model.specs.Fits.{fits, is_row, is_of_session, is_new, rows_are_new, is_straddled}
+use Rattle.peb_base.specs.Tables.{is_row}
+use Rattle.flsm_model.specs.Fits.{fits, is_of_session, is_new, rows_are_new, is_straddled}
 use Rattle.flsm_model.specs.Trees.{Table, Tree, rows_of, contents, installed, written_by, tables_numbered}
 use Rattle.flsm_model.specs.Claims.{jobs_conflict, claims_at, claims_conflict}
 use Rattle.flsm_model.proofs.Totals.{levels-paired}
@@ -72,8 +73,8 @@ fresh_less s ms n h = by (session_of n == s.session) (has_number n s.used) refl 
 pub new_is_fresh : (session : ℕ) (used : List ℕ) (rs : List TableRow) (r : TableRow) → rows_are_new session used rs ≡ true → IsIn r rs
     → ((session_of r.number == session) ≡ true) × (has_number r.number used ≡ false)
 new_is_fresh session used rs r h i =
-    let p = and_parts (is_row r && is_of_session session r.number) (not (has_number r.number used)) (all_in (is_new session used) r rs (and_parts _ _ h).0 i) in
-    let q = and_parts (is_row r) (is_of_session session r.number) p.0 in
+    let p = and_parts (is_row 0 r && is_of_session session r.number) (not (has_number r.number used)) (all_in (is_new session used) r rs (and_parts _ _ h).0 i) in
+    let q = and_parts (is_row 0 r) (is_of_session session r.number) p.0 in
     ((and_parts (session_of r.number == session) (nat_lt 0 (count_of r.number)) q.1).0, not-true _ p.1)
 
 -- a new table is no input of a job in flight

@@ -22,7 +22,8 @@ use Rattle.flsm_model.specs.Shape.{Record, Shape, grown, shape_from, shape_of, e
 use Rattle.flsm_model.specs.Fits.{fits, fit_from, is_chosen, is_guard}
 use Rattle.flsm_model.specs.Trees.{Table, Tree, contents, installed, tree_of, tree_from, empty_tree}
 use Rattle.flsm_model.specs.Choices.{put_keys, choices, chosen_at, chosen_by, Chooses}
-use Rattle.flsm_model.specs.TrueRecord.{DescribedFrom, IsIn}
+use Rattle.flsm_model.specs.TrueRecord.{DescribedFrom}
+use Rattle.peb_base.specs.Members.{IsIn}
 use Rattle.flsm_model.specs.Events.{Event, Opened, Commit, Synced, Look, Hold, Release, Freeze, Begin, Done, Short, JournalFault, Stop, Session, Standing, Running, base}
 use Rattle.flsm_model.specs.Jobs.{is_guard_from, IsLawful, IsMove, IsOfKind}
 use Rattle.flsm_model.specs.Outcomes.{IsEditOf, IsOutcome}

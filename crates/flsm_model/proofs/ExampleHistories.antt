@@ -1,7 +1,7 @@
 -- Closed histories that are legal: the premises of the laws can be met, with jobs beside each other, a merge in the last level, and a stop.
 use Rattle.std.proofs.Common.{◌≡◌, ℕ, zero, suc, ◌≤◌, true, false, List, [], ◌∷◌, take, Some, None, refl, arith}
 use Rattle.peb_base.specs.Choice.{bits}
-use Rattle.peb_base.specs.Tables.{table_bytes}
+use Rattle.peb_base.specs.Tables.{table_length}
 use Rattle.peb_base.specs.declared.change.Change.TheVariants.{Put, Delete}
 use Rattle.peb_base.specs.declared.op.Op.{Op}
 use Rattle.flsm_model.specs.declared.edit.Edit.TheVariants.{Flush, Move, Cut, Merge}
@@ -79,7 +79,7 @@ at_once =
     ∷ []
 
 at_once_is_legal : IsLegal small (base true small [] []) at_once
-unfolding table_bytes bits lib.Count.count_trailing_zeros
+unfolding table_length bits lib.Count.count_trailing_zeros
 at_once_is_legal =
     (refl, refl, omega arith)
     then (refl, omega arith, omega arith, refl, omega arith)
@@ -153,7 +153,7 @@ merges =
     ∷ []
 
 merges_are_legal : IsLegal small (base true small [] []) merges
-unfolding table_bytes bits lib.Count.count_trailing_zeros
+unfolding table_length bits lib.Count.count_trailing_zeros
 merges_are_legal =
     (refl, refl, omega arith)
     then (refl, omega arith, omega arith, refl, omega arith)
@@ -181,7 +181,7 @@ merges_are_legal =
     then tt
 
 no_table_is_left : (run small (base true small [] []) merges).tree.tables ≡ []
-unfolding table_bytes
+unfolding table_length
 no_table_is_left = refl
 
 -- ---- a flush that is cut short, and one whose edit a stop leaves
@@ -197,7 +197,7 @@ stops =
     ∷ []
 
 stops_are_legal : IsLegal small (base true small [] []) stops
-unfolding table_bytes bits lib.Count.count_trailing_zeros
+unfolding table_length bits lib.Count.count_trailing_zeros
 stops_are_legal =
     (refl, refl, omega arith)
     then (refl, omega arith, omega arith, refl, omega arith)

@@ -4,7 +4,7 @@ use Rattle.peb_base.specs.Batches.{Batches}
 use Rattle.peb_base.specs.Entries.{in_order}
 use Rattle.peb_base.specs.Map.{map_at}
 use Rattle.peb_base.specs.Choice.{bits}
-use Rattle.peb_base.specs.Tables.{table_bytes}
+use Rattle.peb_base.specs.Tables.{table_length}
 use Rattle.flsm_model.specs.declared.edit.Edit.{Edit}
 use Rattle.flsm_model.specs.declared.edit.Edit.TheVariants.{Open, Flush, Move, Cut}
 use Rattle.flsm_model.specs.declared.job_kind.JobKind.{JobKind}
@@ -18,7 +18,8 @@ use Rattle.flsm_model.specs.Trees.{Table, Tree, rows_of, empty_tree, contents, t
 use Rattle.flsm_model.specs.Writes.{writes_from, cuts_from}
 use Rattle.flsm_model.specs.Ledgers.{nothing, ledger}
 use Rattle.flsm_model.specs.Picking.{wanted}
-use Rattle.flsm_model.specs.Shown.{shown, all_entries}
+use Rattle.peb_base.specs.Shown.{shown}
+use Rattle.flsm_model.specs.Shown.{all_entries}
 use Rattle.flsm_model.proofs.Samples.{small, n, put, delete, puts, row, o_key, g_key}
 
 -- ---- which edits fit
@@ -67,7 +68,7 @@ three =
     ∷ []
 
 three_is_legal : is_legal_record small three ≡ true
-unfolding table_bytes bits lib.Count.count_trailing_zeros
+unfolding table_length bits lib.Count.count_trailing_zeros
 three_is_legal = refl
 
 three_tables : (tree_of small three_batches three).tables
@@ -75,11 +76,11 @@ three_tables : (tree_of small three_batches three).tables
 three_tables = refl
 
 three_at_0 : ledger three [] 0 ≡ record { tables = 3; entries = 3; bytes = 333; cuts = 0; short = 0; lost = 0 }
-unfolding table_bytes
+unfolding table_length
 three_at_0 = refl
 
 three_at_1 : ledger three [] 1 ≡ record { tables = 1; entries = 3; bytes = 149; cuts = 0; short = 0; lost = 0 }
-unfolding table_bytes
+unfolding table_length
 three_at_1 = refl
 
 -- ---- a, o, z: o is cut first, the deepest level first, which takes no input
@@ -98,11 +99,11 @@ cut_first =
     ∷ []
 
 cut_first_is_legal : is_legal_record small cut_first ≡ true
-unfolding table_bytes bits lib.Count.count_trailing_zeros
+unfolding table_length bits lib.Count.count_trailing_zeros
 cut_first_is_legal = refl
 
 cut_first_at_1 : ledger cut_first [] 1 ≡ record { tables = 2; entries = 3; bytes = 241; cuts = 0; short = 0; lost = 0 }
-unfolding table_bytes
+unfolding table_length
 cut_first_at_1 = refl
 
 cut_first_holds : map (λ (t : Table). t.entries) (tree_of small cut_first_batches cut_first).tables ≡ (put 97 1 49 ∷ []) ∷ (put 111 2 50 ∷ put 122 3 51 ∷ []) ∷ []
@@ -133,15 +134,15 @@ six =
     ∷ []
 
 six_is_legal : is_legal_record small six ≡ true
-unfolding table_bytes bits lib.Count.count_trailing_zeros
+unfolding table_length bits lib.Count.count_trailing_zeros
 six_is_legal = refl
 
 six_at_0 : ledger six [] 0 ≡ record { tables = 6; entries = 6; bytes = 666; cuts = 0; short = 0; lost = 0 }
-unfolding table_bytes
+unfolding table_length
 six_at_0 = refl
 
 six_at_1 : ledger six [] 1 ≡ record { tables = 4; entries = 9; bytes = 539; cuts = 3; short = 0; lost = 0 }
-unfolding table_bytes
+unfolding table_length
 six_at_1 = refl
 
 six_hold : map (λ (t : Table). t.entries) (tree_of small six_batches six).tables
@@ -210,14 +211,14 @@ cut_g =
     (row 4 3 (put 97 1 49 ∷ []) ∷ row 5 3 (put 112 2 49 ∷ []) ∷ row 6 3 (put 98 3 49 ∷ []) ∷ row 7 3 (put 113 4 49 ∷ []) ∷ [])
 
 cut_g_fits : fits small halves_tree.shape cut_g ≡ true
-unfolding table_bytes bits lib.Count.count_trailing_zeros
+unfolding table_length bits lib.Count.count_trailing_zeros
 cut_g_fits = refl
 
 cut_g_holds : contents small [] halves_tree cut_g ≡ (put 97 1 49 ∷ []) ∷ (put 112 2 49 ∷ []) ∷ (put 98 3 49 ∷ []) ∷ (put 113 4 49 ∷ []) ∷ []
 cut_g_holds = refl
 
 cut_g_counts : ledger (cut_g ∷ []) [] 3 ≡ record { tables = 4; entries = 4; bytes = 444; cuts = 4; short = 0; lost = 0 }
-unfolding table_bytes
+unfolding table_length
 cut_g_counts = refl
 
 -- the third table isn't split, so it may be no input

@@ -12,7 +12,7 @@ use Rattle.flsm_model.specs.Outcomes.{IsOutcome}
 use Rattle.flsm_model.specs.Jobs.{IsLawful}
 use Rattle.flsm_model.specs.Legal.{Allowed, AllowedIn}
 use Rattle.flsm_model.specs.Steps.{without_job, step}
-use Rattle.flsm_model.specs.TrueRecord.{IsIn}
+use Rattle.peb_base.specs.Members.{IsIn}
 use Rattle.flsm_model.proofs.Orders.{AllApart}
 use Rattle.flsm_model.proofs.Histories.{job_in, apart_pair, apart_filter, free_each, within}
 use Rattle.flsm_model.proofs.Sessions.{Numbers, NumbersHold, InNumbers, NumbersApart, blocks_apart}

@@ -8,7 +8,8 @@ use Rattle.peb_base.specs.declared.entry.Entry.{Entry}
 use Rattle.flsm_model.specs.Shape.{Record}
 use Rattle.flsm_model.specs.Fits.{fits, fit_from}
 use Rattle.flsm_model.specs.Trees.{Tree, rows_of, installed, tree_from, tree_of, empty_tree}
-use Rattle.flsm_model.specs.TrueRecord.{DescribedFrom, IsIn, IsNewest, Live, Flushed, IsTrueRecord}
+use Rattle.flsm_model.specs.TrueRecord.{DescribedFrom, IsNewest, Live, Flushed, IsTrueRecord}
+use Rattle.peb_base.specs.Members.{IsIn}
 use Rattle.flsm_model.specs.Events.{Event, Standing, base}
 use Rattle.flsm_model.specs.Jobs.{floor_of}
 use Rattle.flsm_model.specs.Steps.{is_held, run, step}

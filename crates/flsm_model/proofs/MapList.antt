@@ -15,10 +15,12 @@ use Rattle.flsm_model.specs.Shape.{Record}
 use Rattle.flsm_model.specs.Trees.{Table, Tree, contents, installed, tree_from, empty_tree}
 use Rattle.flsm_model.specs.Events.{Session, Standing, base}
 use Rattle.flsm_model.specs.Steps.{run}
-use Rattle.flsm_model.specs.TrueRecord.{IsIn, IsNewest, Live, Flushed, SamePuts}
+use Rattle.flsm_model.specs.TrueRecord.{IsNewest, Live, Flushed, SamePuts}
+use Rattle.peb_base.specs.Members.{IsIn}
 use Rattle.flsm_model.specs.Reading.{InMemory, IsRead, MapShows}
 use Rattle.flsm_model.specs.Legal.{Always}
-use Rattle.flsm_model.specs.Shown.{firsts, shown, all_entries, in_memory}
+use Rattle.peb_base.specs.Shown.{firsts, shown}
+use Rattle.flsm_model.specs.Shown.{all_entries, in_memory}
 use Rattle.flsm_model.proofs.Members.{in_sorted, in_paired, from_move, from_merge, from_cut}
 use Rattle.flsm_model.proofs.Falls.{after}
 use Rattle.flsm_model.proofs.Sorts.{sorted_in_order}

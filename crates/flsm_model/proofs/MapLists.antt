@@ -11,7 +11,7 @@ use Rattle.peb_base.specs.MapLaws.{lookup_set, lookup_set_other, lookup_remove, 
 use Rattle.peb_base.specs.declared.change.Change.{Change}
 use Rattle.peb_base.specs.declared.change.Change.TheVariants.{Put, Delete}
 use Rattle.peb_base.specs.declared.entry.Entry.{Entry}
-use Rattle.flsm_model.specs.TrueRecord.{IsIn}
+use Rattle.peb_base.specs.Members.{IsIn}
 use Rattle.flsm_model.proofs.NewRows.{le_ne_lt}
 use Rattle.flsm_model.proofs.Lists.{in_filter}
 

@@ -12,7 +12,7 @@ use Rattle.peb_base.specs.Profiles.{Column}
 use Rattle.flsm_model.specs.declared.chosen.Chosen.{Chosen}
 use Rattle.flsm_model.specs.declared.edit.Edit.TheVariants.{Flush, Move, Cut, Merge}
 use Rattle.flsm_model.specs.Shape.{has_number, guards_at}
-pub use Rattle.flsm_model.specs.TrueRecord.{IsIn}
+pub use Rattle.peb_base.specs.Members.{IsIn}
 use Rattle.flsm_model.specs.Trees.{Table, Tree, content_of, merged, contents, paired, written_by}
 use Rattle.flsm_model.proofs.Lists.{in_filter, in_append, in_flat}
 

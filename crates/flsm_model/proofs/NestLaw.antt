@@ -12,7 +12,7 @@ use Rattle.flsm_model.specs.declared.edit.Edit.TheVariants.{Open, Flush, Move, C
 use Rattle.flsm_model.specs.Ranges.{has_key, with_key, with_keys}
 use Rattle.flsm_model.specs.Shape.{Record, Shape, empty_shape, guards_at, grown, shape_from, has_number, rows_without}
 use Rattle.flsm_model.specs.Fits.{fits, fit_from, is_guard}
-use Rattle.flsm_model.specs.TrueRecord.{IsIn}
+use Rattle.peb_base.specs.Members.{IsIn}
 use Rattle.flsm_model.specs.Sound.{RiseFrom, Rise, IsNested, RecordsNested}
 use Rattle.flsm_model.proofs.Base.{kept_empty}
 use Rattle.flsm_model.proofs.Facts.{move_facts, flush_facts, cut_facts, merge_facts}

@@ -22,7 +22,7 @@ use Rattle.flsm_model.specs.declared.chosen.Chosen.{Chosen}
 use Rattle.flsm_model.specs.Choices.{put_keys, choices, chosen_at, chosen_by}
 use Rattle.flsm_model.specs.Shape.{Shape, has_number, rows_numbered}
 use Rattle.flsm_model.specs.Fits.{is_chosen, is_level, are_choices, lies_in, first_smallest, is_some_list, is_live, begins_past, lie_apart, is_of_session, is_new, numbers_differ, rows_are_new, rows_ascend}
-use Rattle.flsm_model.specs.TrueRecord.{IsIn}
+use Rattle.peb_base.specs.Members.{IsIn}
 use Rattle.flsm_model.proofs.Members.{in_pieces, in_some_entries}
 use Rattle.flsm_model.proofs.Guards.{AscendFrom, same_range}
 use Rattle.flsm_model.proofs.InGuards.{start_in}

@@ -12,8 +12,8 @@ use Rattle.peb_base.specs.declared.change.Change.{Change}
 use Rattle.peb_base.specs.declared.change.Change.TheVariants.{Put, Delete}
 use Rattle.peb_base.specs.declared.op.Op.{Op}
 use Rattle.peb_base.specs.declared.entry.Entry.{Entry}
-use Rattle.flsm_model.specs.TrueRecord.{IsIn}
-use Rattle.flsm_model.specs.Shown.{firsts, put_of}
+use Rattle.peb_base.specs.Members.{IsIn}
+use Rattle.peb_base.specs.Shown.{firsts, put_of}
 use Rattle.flsm_model.proofs.Members.{in_put}
 use Rattle.flsm_model.proofs.Sorts.{Sorted, sorted_in_order}
 use Rattle.flsm_model.proofs.Shown.{in_numbered, above_low}

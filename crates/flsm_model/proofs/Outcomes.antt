@@ -17,13 +17,14 @@ use Rattle.flsm_model.specs.declared.edit.Edit.{Edit}
 use Rattle.flsm_model.specs.declared.edit.Edit.TheVariants.{Open, Flush, Move, Cut, Merge}
 use Rattle.flsm_model.specs.declared.job_kind.JobKind.TheVariants.{Flush as FlushJob, Move as MoveJob, Cut as CutJob, Merge as MergeJob}
 use Rattle.flsm_model.specs.declared.job.Job.{Job}
-use Rattle.flsm_model.specs.Fits.{fits, lies_in, lie_apart, range_of_row, rows_ascend, are_inputs, input_range, is_some_list, is_straddled, is_candidate, is_guard, is_row, is_new, is_of_session, rows_are_new, are_choices}
+use Rattle.peb_base.specs.Tables.{is_row}
+use Rattle.flsm_model.specs.Fits.{fits, lies_in, lie_apart, range_of_row, rows_ascend, are_inputs, input_range, is_some_list, is_straddled, is_candidate, is_guard, is_new, is_of_session, rows_are_new, are_choices}
 use Rattle.flsm_model.specs.Shape.{Shape, has_number, guards_at, rows_numbered, rows_without, outputs_of}
 use Rattle.flsm_model.specs.Events.{Event, Opened, Commit, Synced, Look, Hold, Release, Freeze, Begin, Done, Short, JournalFault, Stop, Session, Standing, base, last_of}
 use Rattle.flsm_model.specs.Jobs.{numbers_needed, job_range, guards_in}
 use Rattle.flsm_model.specs.Outcomes.{into_at, IsEditOf, IsOutcome}
 use Rattle.flsm_model.specs.Steps.{step, run}
-use Rattle.flsm_model.specs.TrueRecord.{IsIn}
+use Rattle.peb_base.specs.Members.{IsIn}
 use Rattle.flsm_model.specs.Legal.{IsLegal, AlwaysFormed}
 use Rattle.flsm_model.specs.Undisturbed.{KeepsFlush, KeepsMove, KeepsCut, KeepsMerge, KeepsKind, Undisturbed}
 use Rattle.flsm_model.specs.Made.{suits, RowsSuit, IsMade, OutcomesFit}
@@ -332,10 +333,10 @@ module _ (o : Column) (w : Standing) (n : Session) (j : Job) (fm : Formed o w) (
   untold_new : (e : Edit) → IsMade o w n j e → RowsSuit o w.tree.shape j e → rows_are_new w.tree.shape.session w.tree.shape.used (outputs_of e) ≡ true
   untold_new e m r =
       and_from _ _ (all_of (is_new w.tree.shape.session w.tree.shape.used) (outputs_of e) (λ x i.
-      let y = number_free e m x i in and_from _ _ (and_from _ _ (all_in is_row x (outputs_of e) r.form i) y.1) (ap not y.2))) m.differ
+      let y = number_free e m x i in and_from _ _ (and_from _ _ (all_in (is_row 0) x (outputs_of e) r.form i) y.1) (ap not y.2))) m.differ
 
   order_of : (e : Edit) → RowsSuit o w.tree.shape j e → (r : TableRow) → IsIn r (outputs_of e) → key_le r.smallest r.largest ≡ true
-  order_of e m r i = (and_parts _ _ (and_parts _ _ (and_parts _ _ (all_in is_row r (outputs_of e) m.form i)).0).0).0
+  order_of e m r i = (and_parts _ _ (and_parts _ _ (and_parts _ _ (all_in (is_row 0) r (outputs_of e) m.form i)).0).0).0
 
   pub untold_rows : (e : Edit) → IsMade o w n j e → RowsSuit o w.tree.shape j e → RowsFit o w.tree.shape j e
   untold_rows e m r = record { new = untold_new e m r; inside = r.inside; lie = by (edit_is n j e m.same) }

@@ -2,7 +2,7 @@
 use Rattle.std.proofs.Common.{ℕ, false, List, [], ◌∷◌, length, None, refl, arith}
 use Rattle.peb_base.specs.Numbers.{number_of}
 use Rattle.peb_base.specs.Profiles.{Column, column}
-use Rattle.peb_base.specs.Tables.{first_key, last_key, least_number, greatest_number, raw_bytes, table_bytes}
+use Rattle.peb_base.specs.Tables.{first_key, last_key, least_number, greatest_number, raw_length, table_length}
 use Rattle.peb_base.specs.declared.change.Change.TheVariants.{Put, Delete}
 use Rattle.peb_base.specs.declared.op.Op.{Op}
 use Rattle.peb_base.specs.declared.entry.Entry.{Entry}
@@ -39,10 +39,10 @@ row count level es =
       smallest = first_key es;
       largest = last_key es;
       entries = length es;
-      raw = raw_bytes es;
+      raw = raw_length es;
       first = least_number es;
       last = greatest_number es;
-      bytes = table_bytes small es;
+      bytes = table_length small es;
     }
 
 pub described : (count level : ℕ) (e : Entry) (es : List Entry) → Describes small (row count level (e ∷ es)) (e ∷ es)

@@ -17,7 +17,7 @@ use Rattle.flsm_model.specs.Steps.{flushed, without_job, step}
 use Rattle.flsm_model.specs.Jobs.{numbers_needed, IsLawful}
 use Rattle.flsm_model.specs.Outcomes.{IsEditOf, IsOutcome}
 use Rattle.flsm_model.specs.Legal.{Allowed, last_running}
-use Rattle.flsm_model.specs.TrueRecord.{IsIn}
+use Rattle.peb_base.specs.Members.{IsIn}
 use Rattle.flsm_model.proofs.Places.{Within, within_map, same_session, not_open, last_push, last_some}
 use Rattle.flsm_model.proofs.Histories.{job_in, within}
 use Rattle.flsm_model.proofs.MapLaw.{last_grows}

@@ -10,7 +10,7 @@ use Rattle.flsm_model.specs.declared.edit.Edit.{Edit}
 use Rattle.flsm_model.specs.declared.edit.Edit.TheVariants.{Open, Flush, Move, Cut, Merge}
 use Rattle.flsm_model.specs.Shape.{Record, Shape, empty_shape, grown, shape_from, shape_of, has_number, rows_without}
 use Rattle.flsm_model.specs.Fits.{fits, fit_from, is_new, rows_are_new, numbers_differ}
-use Rattle.flsm_model.specs.TrueRecord.{IsIn}
+use Rattle.peb_base.specs.Members.{IsIn}
 use Rattle.flsm_model.specs.Sound.{NumbersSound, RecordsSound}
 use Rattle.flsm_model.proofs.Facts.{move_facts, flush_facts, cut_facts, merge_facts}
 use Rattle.flsm_model.proofs.Base.{kept_empty}

@@ -16,7 +16,7 @@ use Rattle.flsm_model.specs.Shape.{Shape, has_number, guards_at, rows_numbered, 
 use Rattle.flsm_model.specs.Fits.{lies_in, is_some_list, is_candidate, is_guard, is_straddled}
 use Rattle.flsm_model.specs.Events.{Session, Standing, last_of}
 use Rattle.flsm_model.specs.Jobs.{IsOfKind, are_tables, job_range, IsLawful}
-use Rattle.flsm_model.specs.TrueRecord.{IsIn}
+use Rattle.peb_base.specs.Members.{IsIn}
 use Rattle.flsm_model.specs.Undisturbed.{NumbersFree, KeepsFlush, KeepsCut, KeepsKind, Undisturbed}
 use Rattle.flsm_model.proofs.Facts.{move_facts, cut_facts, merge_facts}
 use Rattle.flsm_model.proofs.Guards.{same_range}

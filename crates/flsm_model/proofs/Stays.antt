@@ -24,7 +24,7 @@ use Rattle.flsm_model.specs.Claims.{jobs_conflict}
 use Rattle.flsm_model.specs.Outcomes.{frozen_entries, outcome, outcome_at}
 use Rattle.flsm_model.specs.Jobs.{IsLawful, IsFlush, IsOfKind}
 use Rattle.flsm_model.specs.Legal.{Allowed, AllowedIn, IsLegal, Always}
-use Rattle.flsm_model.specs.TrueRecord.{IsIn}
+use Rattle.peb_base.specs.Members.{IsIn}
 use Rattle.flsm_model.specs.Undisturbed.{KeepsFlush, KeepsKind, Undisturbed}
 use Rattle.flsm_model.specs.Made.{made_at, OutcomeStands, OutcomesStay}
 use Rattle.flsm_model.proofs.Members.{from_merged, has_in}

@@ -9,7 +9,7 @@ use Rattle.peb_base.specs.declared.table_row.TableRow.{TableRow}
 use Rattle.flsm_model.specs.Compaction.{straddles}
 use Rattle.flsm_model.specs.Ranges.{is_below, in_range, range_after, range_of, keys_ascend, neighbours}
 use Rattle.flsm_model.specs.Fits.{lies_in, range_of_row, begins_past, rows_ascend}
-use Rattle.flsm_model.specs.TrueRecord.{IsIn}
+use Rattle.peb_base.specs.Members.{IsIn}
 use Rattle.flsm_model.proofs.Guards.{AscendFrom, least}
 use Rattle.flsm_model.proofs.Lists.{in_kept, none_any, any_none, list_all-weaker}
 

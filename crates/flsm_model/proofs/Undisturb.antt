@@ -24,7 +24,7 @@ use Rattle.flsm_model.specs.Events.{Session, Standing}
 use Rattle.flsm_model.specs.Claims.{claim, claims_at, claims_conflict, jobs_conflict}
 use Rattle.flsm_model.specs.Jobs.{IsRange, guards_in, job_range}
 use Rattle.flsm_model.specs.Outcomes.{IsEditOf}
-use Rattle.flsm_model.specs.TrueRecord.{IsIn}
+use Rattle.peb_base.specs.Members.{IsIn}
 use Rattle.flsm_model.specs.Undisturbed.{NumbersFree, KeepsFlush, KeepsCut, KeepsMerge, KeepsKind, Undisturbed}
 use Rattle.flsm_model.proofs.Facts.{move_facts, flush_facts, cut_facts, merge_facts}
 use Rattle.flsm_model.proofs.Members.{has_in}

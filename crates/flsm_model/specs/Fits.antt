@@ -4,6 +4,7 @@ use Rattle.std.specs.List.{list_any, list_all}
 use Rattle.peb_base.specs.Keys.{Bytes, key_lt, key_le, key_eq}
 use Rattle.peb_base.specs.Numbers.{session_of, count_of}
 use Rattle.peb_base.specs.Choice.{meets, level_of}
+use Rattle.peb_base.specs.Tables.{is_row}
 use Rattle.flsm_model.specs.Compaction.{straddles}
 use Rattle.peb_base.specs.declared.table_row.TableRow.{TableRow}
 use Rattle.peb_base.specs.Profiles.{Column}
@@ -80,10 +81,6 @@ are_inputs s level inputs =
     && list_all (λ r. r.level == level) (rows_numbered inputs s.live)
     && list_all (lies_in (input_range s level inputs)) (rows_numbered inputs s.live)
 
--- the row is in its form: it has keys, numbers and entries, and tier 0
-abbrev pub is_row : TableRow → Bool
-is_row r = key_le r.smallest r.largest && nat_le r.first r.last && nat_lt 0 r.entries && r.tier == 0
-
 -- the session gives the number; it begins with count 1
 abbrev pub is_of_session : ℕ → ℕ → Bool
 is_of_session session n = session_of n == session && nat_lt 0 (count_of n)
@@ -95,7 +92,7 @@ numbers_differ (n ∷ ns) = not (has_number n ns) && numbers_differ ns
 
 -- the row is in its form, and has a number of the session that isn't used
 abbrev pub is_new : ℕ → List ℕ → TableRow → Bool
-is_new session used r = is_row r && is_of_session session r.number && not (has_number r.number used)
+is_new session used r = is_row 0 r && is_of_session session r.number && not (has_number r.number used)
 
 -- each row is new, and their numbers differ
 abbrev pub rows_are_new : ℕ → List ℕ → List TableRow → Bool

@@ -3,7 +3,7 @@ use Rattle.std.specs.Prelude.{◌≡◌, Bool, ℕ, suc, ◌+◌, ◌*◌, ◌^�
 use Rattle.peb_base.specs.Batches.{Batches, is_boundary, last_number}
 use Rattle.peb_base.specs.Numbers.{session_of}
 use Rattle.peb_base.specs.Profiles.{column, Column}
-use Rattle.peb_base.specs.Tables.{table_bytes}
+use Rattle.peb_base.specs.Tables.{table_length}
 use Rattle.peb_base.specs.declared.profile.Profile.{Profile}
 use Rattle.flsm_model.specs.declared.edit.Edit.{Edit}
 use Rattle.flsm_model.specs.declared.edit.Edit.TheVariants.{Open}
@@ -48,7 +48,7 @@ AllowedIn o w n (Freeze m) =
 AllowedIn o w n (Begin actor job) = (n.faulted ≡ None) × (job_of n.running actor ≡ None) × IsLawful o w n job
 AllowedIn o w n (Done actor e) = (n.faulted ≡ None) × IsSomeAnd (job_of n.running actor) (λ j. IsOutcome o w n j e)
 AllowedIn o w n (Short actor cause bytes) =
-    IsSomeAnd (job_of n.running actor) (λ j. bytes ≤ total (table_bytes o) (outcome o w n j))
+    IsSomeAnd (job_of n.running actor) (λ j. bytes ≤ total (table_length o) (outcome o w n j))
 AllowedIn o w n JournalFault = n.faulted ≡ None
 AllowedIn o w n (Stop m e) = (is_boundary m w.batches ≡ true) × (n.stable ≤ m) × MayStopWith o w n e
 

@@ -2,7 +2,8 @@
 use Rattle.std.specs.Prelude.{◌≡◌, ℕ, ◌+◌, Bool, true, false, ◌&&◌, List, length, map, flat_map, nat_lt, nat_le, ◌==◌, ⊤, Some}
 use Rattle.std.specs.List.{list_all, AllZip}
 use Rattle.flsm_model.specs.Compaction.{kept, pieces, some_entries}
-use Rattle.flsm_model.specs.Fits.{lies_in, lie_apart, range_of_row, is_row, are_choices, numbers_differ}
+use Rattle.peb_base.specs.Tables.{is_row}
+use Rattle.flsm_model.specs.Fits.{lies_in, lie_apart, range_of_row, are_choices, numbers_differ}
 use Rattle.flsm_model.specs.Trees.{Describes, contents, content_of, merged}
 use Rattle.peb_base.specs.declared.entry.Entry.{Entry}
 use Rattle.peb_base.specs.Profiles.{Column}
@@ -13,7 +14,7 @@ use Rattle.flsm_model.specs.declared.job_kind.JobKind.TheVariants.{Flush as Flus
 use Rattle.flsm_model.specs.declared.job.Job.{Job}
 use Rattle.flsm_model.specs.Shape.{Shape, has_number, outputs_of}
 use Rattle.flsm_model.specs.Choices.{Chooses}
-use Rattle.flsm_model.specs.TrueRecord.{IsIn}
+use Rattle.peb_base.specs.Members.{IsIn}
 use Rattle.flsm_model.specs.Events.{Event, Session, Standing, Running}
 use Rattle.flsm_model.specs.Jobs.{numbers_needed, job_range}
 use Rattle.flsm_model.specs.Outcomes.{level_into, outcome, frozen_entries, IsEditOf, IsOutcome}
@@ -35,7 +36,7 @@ suits k o s j e = false
 
 -- the rows of an edit of the job are in their form, lie in the job's range, and lie there as its kind asks
 pub record RowsSuit (o : Column) (s : Shape) (j : Job) (e : Edit) : Type 0 where
-  pub form : list_all is_row (outputs_of e) ≡ true
+  pub form : list_all (is_row 0) (outputs_of e) ≡ true
   pub inside : list_all (lies_in (job_range j)) (outputs_of e) ≡ true
   pub pieces : suits j.kind o s j e ≡ true
 

@@ -13,7 +13,8 @@ use Rattle.flsm_model.specs.Shape.{Record, guards_at, has_number}
 use Rattle.flsm_model.specs.Fits.{lies_in, is_candidate, is_guard}
 use Rattle.flsm_model.specs.Trees.{Table, Tree, tree_of, installed}
 use Rattle.flsm_model.specs.Writes.{copies_in}
-use Rattle.flsm_model.specs.TrueRecord.{IsIn, Falls, IsTrueRecord}
+use Rattle.flsm_model.specs.TrueRecord.{Falls, IsTrueRecord}
+use Rattle.peb_base.specs.Members.{IsIn}
 use Rattle.flsm_model.specs.Events.{Event, Standing, base}
 use Rattle.flsm_model.specs.Steps.{run}
 use Rattle.flsm_model.specs.Legal.{IsLegal}

@@ -4,10 +4,12 @@ use Rattle.peb_base.specs.Batches.{Batches, entries_of}
 use Rattle.peb_base.specs.Map.{map_at}
 use Rattle.peb_base.specs.declared.entry.Entry.{Entry}
 use Rattle.peb_base.specs.Profiles.{Column}
-use Rattle.flsm_model.specs.TrueRecord.{IsIn, Live, SamePuts}
+use Rattle.flsm_model.specs.TrueRecord.{Live, SamePuts}
+use Rattle.peb_base.specs.Members.{IsIn}
 use Rattle.flsm_model.specs.Events.{Session, Standing, last_of}
 use Rattle.flsm_model.specs.Steps.{is_held}
-use Rattle.flsm_model.specs.Shown.{shown, all_entries, in_memory}
+use Rattle.peb_base.specs.Shown.{shown}
+use Rattle.flsm_model.specs.Shown.{all_entries, in_memory}
 
 -- the number is last, or a snapshot that somebody holds
 abbrev pub IsRead : Standing → Session → ℕ → Type 0

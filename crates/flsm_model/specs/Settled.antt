@@ -1,16 +1,11 @@
 -- When the store is settled: nothing waits to be flushed or compacted, and memtables were frozen in time.
-use Rattle.std.specs.Prelude.{◌≡◌, ℕ, ◌+◌, ◌≤◌, Bool, true, false, ◌&&◌, ◌||◌, not, List, [], ◌∷◌, length, nat_le, ◌==◌, Option, Some, None, is_none, sum_by}
+use Rattle.std.specs.Prelude.{◌≡◌, ℕ, ◌≤◌, Bool, true, false, ◌&&◌, ◌||◌, not, List, [], ◌∷◌, nat_le, ◌==◌, Option, Some, None, is_none}
 use Rattle.peb_base.specs.Profiles.{Column}
 use Rattle.peb_base.specs.Batches.{entries_of}
-use Rattle.peb_base.specs.Entries.{value_of, entries_between}
-use Rattle.peb_base.specs.declared.entry.Entry.{Entry}
+use Rattle.peb_base.specs.Entries.{size_of, entries_between}
 use Rattle.flsm_model.specs.Events.{Event, Commit, Freeze, Session, Standing, last_of}
 use Rattle.flsm_model.specs.Steps.{step, run}
 use Rattle.flsm_model.specs.Picking.{over_at, due}
-
--- the size of a memtable with these entries, in bytes
-abbrev pub size_of : List Entry → ℕ
-size_of es = sum_by (λ e. length e.key + length (value_of e.change) + 16) es
 
 -- nothing is frozen
 abbrev pub none_frozen : Option Session → Bool

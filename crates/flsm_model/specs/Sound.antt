@@ -10,7 +10,7 @@ use Rattle.peb_base.specs.declared.table_row.TableRow.{TableRow}
 use Rattle.flsm_model.specs.Ranges.{range_of}
 use Rattle.flsm_model.specs.Shape.{Record, Shape, guards_at, has_number, shape_of}
 use Rattle.flsm_model.specs.Fits.{lies_in, numbers_differ, is_legal_record, is_guard}
-use Rattle.flsm_model.specs.TrueRecord.{IsIn}
+use Rattle.peb_base.specs.Members.{IsIn}
 
 -- the numbers of tables: those of live tables differ, and each is of an earlier session or used in this one
 pub record NumbersSound (s : Shape) : Type 0 where

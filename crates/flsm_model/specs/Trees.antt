@@ -2,7 +2,7 @@
 use Rattle.std.specs.Prelude.{◌≡◌, ℕ, suc, false, not, if◌then◌else◌, List, [], ◌∷◌, ◌++◌, filter, flat_map, ◌==◌}
 use Rattle.peb_base.specs.Batches.{Batches, entries_of}
 use Rattle.peb_base.specs.Entries.{entries_between, in_order}
-use Rattle.peb_base.specs.Tables.{IsRowOf, table_bytes}
+use Rattle.peb_base.specs.Tables.{IsRowOf, table_length}
 use Rattle.flsm_model.specs.Compaction.{kept, pieces, some_entries}
 use Rattle.peb_base.specs.declared.entry.Entry.{Entry}
 use Rattle.peb_base.specs.declared.table_row.TableRow.{TableRow}
@@ -56,7 +56,7 @@ paired (r ∷ rs) (c ∷ cs) = record { row = r; entries = c } ∷ paired rs cs
 -- the row tells of these entries, and of the length of their table
 pub record Describes (o : Column) (row : TableRow) (es : List Entry) : Type 0 where
   pub tells : IsRowOf row es
-  pub bytes : row.bytes ≡ table_bytes o es
+  pub bytes : row.bytes ≡ table_length o es
 
 -- the tables that an edit adds
 abbrev pub written_by : Column → Batches → Tree → Edit → List Table

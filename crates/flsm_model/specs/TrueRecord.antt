@@ -1,7 +1,8 @@
 -- When a record is true of batches: then it is a base from which histories go on.
-use Rattle.std.specs.Prelude.{◌≡◌, ℕ, ◌<◌, ◌≤◌, true, List, [], ◌∷◌, ⊤, ◌⊎◌, ◌↔◌}
+use Rattle.std.specs.Prelude.{◌≡◌, ℕ, ◌<◌, ◌≤◌, true, List, [], ◌∷◌, ⊤, ◌↔◌}
 use Rattle.std.specs.List.{AllZip}
 use Rattle.peb_base.specs.Numbers.{session_of}
+use Rattle.peb_base.specs.Members.{IsIn}
 use Rattle.peb_base.specs.Batches.{Batches, are_in_order, last_number, is_boundary, entries_of}
 use Rattle.flsm_model.specs.Compaction.{is_put}
 use Rattle.flsm_model.specs.Trees.{Describes, Table, Tree, empty_tree, contents, installed, tree_of}
@@ -10,11 +11,6 @@ use Rattle.peb_base.specs.Profiles.{Column}
 use Rattle.flsm_model.specs.Shape.{Record, shape_of, outputs_of}
 use Rattle.flsm_model.specs.Fits.{is_legal_record}
 use Rattle.flsm_model.specs.Choices.{Chooses}
-
--- x is an element of the list
-abbrev pub IsIn : {X : Type 0} → X → List X → Type 0
-IsIn x [] = ⊥
-IsIn x (y ∷ ys) = (x ≡ y) ⊎ IsIn x ys
 
 -- ---- levels
 

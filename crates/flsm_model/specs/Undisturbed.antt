@@ -9,7 +9,7 @@ use Rattle.flsm_model.specs.declared.job.Job.{Job}
 use Rattle.flsm_model.specs.Ranges.{keys_ascend}
 use Rattle.flsm_model.specs.Shape.{Shape, has_number, rows_numbered, rows_without}
 use Rattle.flsm_model.specs.Fits.{lies_in, numbers_ascend, is_some_list, is_live, is_straddled, is_of_session, may_be_cut}
-use Rattle.flsm_model.specs.TrueRecord.{IsIn}
+use Rattle.peb_base.specs.Members.{IsIn}
 use Rattle.flsm_model.specs.Events.{Session, Standing, Running}
 use Rattle.flsm_model.specs.Claims.{jobs_conflict}
 use Rattle.flsm_model.specs.Jobs.{numbers_needed, IsRange, guards_in, job_range}

@@ -7,6 +7,7 @@ ghost use Rattle.peb_base.specs.Keys.{key_lt};
 ghost use Rattle.flsm_model.specs.Ranges as ranges;
 ghost use Rattle.flsm_model.specs.Compaction as compaction;
 ghost use Rattle.flsm_model.specs.Shape as shapes;
+ghost use Rattle.peb_base.specs.Tables as tables;
 ghost use Rattle.flsm_model.specs.Fits as fits;
 
 use crate::chosen::Chosen;
@@ -26,7 +27,7 @@ pub fn is_some_list<X>(items: &[X]) -> bool
 
 /// Whether the row is in its form.
 pub fn is_row(row: &TableRow) -> bool
-    ensures { result ≡ fits.is_row row.now }
+    ensures { result ≡ tables.is_row 0 row.now }
 {
     !is_below(row.largest.bytes(), row.smallest.bytes())
         && row.first <= row.last

@@ -6,7 +6,7 @@ use Rattle.peb_base.specs.Batches.{Batches, last_number, are_in_order, is_bounda
 use Rattle.peb_base.specs.Map.{map_at, value_at, rows, reversed_rows, Map}
 use Rattle.peb_base.specs.Profiles.{Column, column}
 use Rattle.peb_base.specs.Choice.{fnv_start, fnv1a, bits, level_of}
-use Rattle.peb_base.specs.Tables.{table_bytes}
+use Rattle.peb_base.specs.Tables.{table_length}
 use Rattle.peb_base.specs.declared.profile.Profile.TheVariants.{Small}
 use Rattle.peb_base.specs.declared.change.Change.{Change}
 use Rattle.peb_base.specs.declared.change.Change.TheVariants.{Put, Delete}
@@ -106,25 +106,25 @@ level_of_a : level_of small (97 ∷ []) ≡ None
 unfolding bits lib.Count.count_trailing_zeros
 level_of_a = refl
 
-length_of_one : table_bytes small (put_at 97 1 ∷ []) ≡ 111
-unfolding table_bytes
+length_of_one : table_length small (put_at 97 1 ∷ []) ≡ 111
+unfolding table_length
 length_of_one = refl
 
-length_of_two : table_bytes small (put_at 97 1 ∷ put_at 98 2 ∷ []) ≡ 130
-unfolding table_bytes
+length_of_two : table_length small (put_at 97 1 ∷ put_at 98 2 ∷ []) ≡ 130
+unfolding table_length
 length_of_two = refl
 
-length_of_three : table_bytes small (put_at 97 1 ∷ put_at 98 2 ∷ put_at 99 3 ∷ []) ≡ 149
-unfolding table_bytes
+length_of_three : table_length small (put_at 97 1 ∷ put_at 98 2 ∷ put_at 99 3 ∷ []) ≡ 149
+unfolding table_length
 length_of_three = refl
 
 -- two entries of one key
-length_of_a_key_twice : table_bytes small (put_at 97 2 ∷ put_at 97 1 ∷ []) ≡ 129
-unfolding table_bytes
+length_of_a_key_twice : table_length small (put_at 97 2 ∷ put_at 97 1 ∷ []) ≡ 129
+unfolding table_length
 length_of_a_key_twice = refl
 
-length_of_four : table_bytes small (put_at 97 2 ∷ put_at 97 1 ∷ put_at 98 3 ∷ put_at 99 4 ∷ []) ≡ 167
-unfolding table_bytes
+length_of_four : table_length small (put_at 97 2 ∷ put_at 97 1 ∷ put_at 98 3 ∷ put_at 99 4 ∷ []) ≡ 167
+unfolding table_length
 length_of_four = refl
 
 -- a seek at a key goes to its newest entry, or to the first one behind

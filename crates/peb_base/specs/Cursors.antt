@@ -1,7 +1,9 @@
 -- Where a cursor stands among its entries.
-use Rattle.std.specs.Prelude.{◌≡◌, ℕ, zero, suc, ◌-◌, ◌<◌, Bool, List, length, nat_lt, if◌then◌else◌, Option, Some, None, Result, Ok, Err, slice_get, IfSome, is_none}
+use Rattle.std.specs.Prelude.{◌≡◌, ℕ, zero, suc, ◌-◌, ◌<◌, ◌≤◌, false, List, length, nat_lt, if◌then◌else◌, Option, Some, None, Result, Ok, Err, slice_get, IfSome}
+use Rattle.std.specs.List.{AllByRecursion}
 use Rattle.peb_base.specs.Keys.{Bytes}
-use Rattle.peb_base.specs.Entries.{AreSorted, first_from}
+use Rattle.peb_base.specs.Entries.{AreSorted, entry_lt, first_from}
+use Rattle.peb_base.specs.Faults.{Rose}
 use Rattle.peb_base.specs.declared.entry.Entry.{Entry}
 use Rattle.peb_base.specs.declared.read_fault.ReadFault.{ReadFault}
 use Rattle.peb_base.specs.declared.read_fault.ReadFault.TheVariants.{Fault, Damaged}
@@ -38,17 +40,21 @@ abbrev pub entry_at : List Entry → Option ℕ → Option Entry
 entry_at es None = None
 entry_at es (Some n) = slice_get es n
 
--- a cursor stands there: its entries are sorted, and its place is one of theirs or none
-pub record StandsAmong (es : List Entry) (place : Option ℕ) (nowhere : Bool) : Type 0 where
+-- a cursor that shows this stands there: its entries are sorted, its place is one of theirs or none, and it shows the entry at its place
+pub record StandsAmong (es : List Entry) (place : Option ℕ) (shown : Option Entry) : Type 0 where
   pub sorted : AreSorted es
   pub inside : IfSome place (λ n. n < length es)
-  pub none : nowhere ≡ is_none place
+  pub shows : shown ≡ entry_at es place
+
+-- the entry comes before none of these
+abbrev pub ComesBeforeNone : Entry → List Entry → Type 0
+ComesBeforeNone e es = AllByRecursion (λ f. entry_lt e f ≡ false) es
 
 -- a move goes there, or the device failed and it stands nowhere; it doesn't tell damage
-abbrev pub Goes : (Option ℕ → Type 0) → Option ℕ → Result (Unit {0}) ReadFault → Type 0
-Goes StandsAt place (Ok x) = StandsAt place
-Goes StandsAt place (Err Fault) = StandsAt None
-Goes StandsAt place (Err (Damaged table at)) = ⊥
+abbrev pub LeadsTo : (Option ℕ → Type 0) → Option ℕ → Result (Unit {0}) ReadFault → Type 0
+LeadsTo StandsAt place (Ok x) = StandsAt place
+LeadsTo StandsAt place (Err Fault) = StandsAt None
+LeadsTo StandsAt place (Err (Damaged table at)) = ⊥
 
 -- the refusal of a move
 abbrev pub refusal : Result (Unit {0}) ReadFault → Option ReadFault
@@ -59,3 +65,14 @@ refusal (Err e) = Some e
 abbrev pub OnFault : Result (Unit {0}) ReadFault → Type 0 → Type 0
 OnFault (Err Fault) fact = fact
 OnFault result fact = Unit {0}
+
+-- where damage is told of the table of this number, at this place
+abbrev pub IfDamage : {T : Type 0} → Result T ReadFault → (ℕ → ℕ → Type 0) → Type 0
+IfDamage (Ok x) fact = Unit {0}
+IfDamage (Err Fault) fact = Unit {0}
+IfDamage (Err (Damaged table at)) fact = fact table at
+
+-- the count of faults never falls in a move, and the device failed only where it rose
+pub record CountsFaults (before now : ℕ) (result : Result (Unit {0}) ReadFault) : Type 0 where
+  pub never_falls : before ≤ now
+  pub rose : OnFault result (Rose before now)

@@ -1,5 +1,5 @@
 -- Entries and their order.
-use Rattle.std.specs.Prelude.{◌≡◌, ℕ, suc, ◌<◌, ◌≤◌, ◌^◌, Bool, true, ◌&&◌, ◌||◌, if◌then◌else◌, List, [], ◌∷◌, length, filter, nat_lt, nat_le}
+use Rattle.std.specs.Prelude.{◌≡◌, ℕ, suc, ◌+◌, ◌<◌, ◌≤◌, ◌^◌, Bool, true, ◌&&◌, ◌||◌, if◌then◌else◌, List, [], ◌∷◌, length, filter, nat_lt, nat_le, sum_by}
 use Rattle.peb_base.specs.Keys.{Bytes, key_lt, key_eq}
 use Rattle.peb_base.specs.declared.change.Change.{Change}
 use Rattle.peb_base.specs.declared.change.Change.TheVariants.{Put, Delete}
@@ -27,6 +27,10 @@ put_in e (f ∷ fs) = if entry_lt e f then e ∷ f ∷ fs else f ∷ put_in e fs
 abbrev pub in_order : List Entry → List Entry
 in_order [] = []
 in_order (e ∷ es) = put_in e (in_order es)
+
+-- the size of a memtable with these entries, in bytes
+abbrev pub size_of : List Entry → ℕ
+size_of es = sum_by (λ e. length e.key + length (value_of e.change) + 16) es
 
 -- the entries numbered above low and at most high
 abbrev pub entries_between : ℕ → ℕ → List Entry → List Entry

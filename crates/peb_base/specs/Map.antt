@@ -45,14 +45,14 @@ abbrev pub value_at : Batches → ℕ → Bytes → Option Bytes
 value_at bs n k = lookup k (map_at bs n)
 
 -- the key comes before a bound; an empty one is no bound
-abbrev pub is_before : Bytes → Bytes → Bool
-is_before key [] = true
-is_before key (b ∷ bs) = key_lt key (b ∷ bs)
+abbrev pub is_under : Bytes → Bytes → Bool
+is_under key [] = true
+is_under key (b ∷ bs) = key_lt key (b ∷ bs)
 
 -- the first pairs, at most limit, with lo <= key < hi
 abbrev pub rows : Map → Bytes → Bytes → ℕ → Map
-rows m lo hi limit = take limit (filter (λ p. key_le lo p.0 && is_before p.0 hi) m)
+rows m lo hi limit = take limit (filter (λ p. key_le lo p.0 && is_under p.0 hi) m)
 
 -- the same range from the greatest key downwards
 abbrev pub reversed_rows : Map → Bytes → Bytes → ℕ → Map
-reversed_rows m lo hi limit = take limit (reverse (filter (λ p. key_le lo p.0 && is_before p.0 hi) m))
+reversed_rows m lo hi limit = take limit (reverse (filter (λ p. key_le lo p.0 && is_under p.0 hi) m))

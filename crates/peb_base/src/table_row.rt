@@ -1,7 +1,11 @@
 //! Rows of tables.
 
+ghost use Rattle.std.specs.Prelude.{◌≡◌, IfOk};
+
 use crate::key::Key;
+use crate::memory::Memory;
 use crate::number::Number;
+use std::alloc::Global;
 
 /// What is kept of a sorted table beside its file.
 #[derive(Debug, Drop)]
@@ -9,7 +13,7 @@ pub struct TableRow {
     /// The table's number, session * 2^40 + count, which names its file.
     pub number: u64,
     pub level: u8,
-    /// Always 0: levels have one tier.
+    /// The tier of its level; 0 where levels have one.
     pub tier: u8,
     pub smallest: Key,
     pub largest: Key,
@@ -23,4 +27,24 @@ pub struct TableRow {
     pub last: Number,
     /// The length of the file, in bytes.
     pub bytes: u64,
+}
+
+impl TableRow {
+    /// A copy of the row.
+    pub fn copy(&self, alloc: Global) -> Result<TableRow, Memory>
+        ensures { IfOk result (λ copy. copy ≡ self.now) }
+    {
+        Ok(TableRow {
+            number: self.number,
+            level: self.level,
+            tier: self.tier,
+            smallest: self.smallest.copy(alloc)?,
+            largest: self.largest.copy(alloc)?,
+            entries: self.entries,
+            raw: self.raw,
+            first: self.first,
+            last: self.last,
+            bytes: self.bytes,
+        })
+    }
 }

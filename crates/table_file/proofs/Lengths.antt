@@ -9,7 +9,7 @@ use Rattle.peb_base.specs.Keys.{Bytes}
 use Rattle.peb_base.specs.Entries.{value_of}
 use Rattle.peb_base.specs.Profiles.{Column}
 use Rattle.peb_base.specs.Tables as reckoned
-use Rattle.peb_base.specs.Tables.{last_key, filter_bytes, shared_bytes}
+use Rattle.peb_base.specs.Tables.{last_key, filter_length, shared_length}
 use Rattle.peb_base.specs.declared.entry.Entry.{Entry}
 use Rattle.block_form.specs.Building.{key_after}
 use Rattle.block_form.specs.Form.{is_restart, parts_at, entry_bytes, entries_bytes, restarts, block_restarts, places_bytes, block_bytes}
@@ -24,22 +24,22 @@ length-parts : (p : Parts) → length (parts_bytes p) ≡ 17 + length p.rest + l
 unfolding parts_bytes head_bytes
 length-parts p = omega (arith, length-append (head_bytes (head_of_parts p)) (p.rest ++ value_of p.change), length-append p.rest (value_of p.change))
 
-length-entry : (place : ℕ) (before : Bytes) (e : Entry) → length (entry_bytes place before e) ≡ reckoned.entry_bytes place before e
+length-entry : (place : ℕ) (before : Bytes) (e : Entry) → length (entry_bytes place before e) ≡ reckoned.entry_length place before e
 unfolding entry_bytes
-length-entry place before e = length-parts (parts_at place before e) ∙ ap (λ n. 17 + n + length (value_of e.change)) (length-drop (shared_bytes place before e.key) e.key)
+length-entry place before e = length-parts (parts_at place before e) ∙ ap (λ n. 17 + n + length (value_of e.change)) (length-drop (shared_length place before e.key) e.key)
 
 -- one entry more
-entries-push : (place : ℕ) (before : Bytes) (es : List Entry) (e : Entry) → length (entries_bytes place before (es ++ e ∷ [])) ≡ length (entries_bytes place before es) + reckoned.entry_bytes (place + length es) (key_after before es) e
+entries-push : (place : ℕ) (before : Bytes) (es : List Entry) (e : Entry) → length (entries_bytes place before (es ++ e ∷ [])) ≡ length (entries_bytes place before es) + reckoned.entry_length (place + length es) (key_after before es) e
 unfolding entries_bytes
 entries-push place before [] e =
     let here : place ≡ place + 0 = omega arith in
     let alone : length (entry_bytes place before e ++ []) ≡ length (entry_bytes place before e) = omega (arith, length-append (entry_bytes place before e) []) in
-    let counted : reckoned.entry_bytes place before e ≡ 0 + reckoned.entry_bytes place before e = omega arith in
-    alone ∙ length-entry place before e ∙ counted ∙ ap (λ n. 0 + reckoned.entry_bytes n before e) here
+    let counted : reckoned.entry_length place before e ≡ 0 + reckoned.entry_length place before e = omega arith in
+    alone ∙ length-entry place before e ∙ counted ∙ ap (λ n. 0 + reckoned.entry_length n before e) here
 entries-push place before (f ∷ es) e =
     let there : suc place + length es ≡ place + length (f ∷ es) = omega arith in
-    let next : length (entries_bytes (suc place) f.key (es ++ e ∷ [])) ≡ length (entries_bytes (suc place) f.key es) + reckoned.entry_bytes (place + length (f ∷ es)) (key_after f.key es) e =
-    entries-push (suc place) f.key es e ∙ ap (λ n. length (entries_bytes (suc place) f.key es) + reckoned.entry_bytes n (key_after f.key es) e) there in
+    let next : length (entries_bytes (suc place) f.key (es ++ e ∷ [])) ≡ length (entries_bytes (suc place) f.key es) + reckoned.entry_length (place + length (f ∷ es)) (key_after f.key es) e =
+    entries-push (suc place) f.key es e ∙ ap (λ n. length (entries_bytes (suc place) f.key es) + reckoned.entry_length n (key_after f.key es) e) there in
     omega (arith, length-append (entry_bytes place before f) (entries_bytes (suc place) f.key (es ++ e ∷ [])), length-append (entry_bytes place before f) (entries_bytes (suc place) f.key es), next)
 
 key_after-last : (before : Bytes) (e : Entry) (es : List Entry) → key_after before (e ∷ es) ≡ last_key (e ∷ es)
@@ -54,10 +54,10 @@ key_after-none (e ∷ es) = key_after-last [] e es
 abbrev size_of : List Entry → ℕ
 size_of es = length (entries_bytes 0 [] es)
 
-size-push : (es : List Entry) (e : Entry) → size_of (es ++ e ∷ []) ≡ size_of es + reckoned.entry_bytes (length es) (last_key es) e
+size-push : (es : List Entry) (e : Entry) → size_of (es ++ e ∷ []) ≡ size_of es + reckoned.entry_length (length es) (last_key es) e
 size-push es e =
     let here : 0 + length es ≡ length es = omega arith in
-    entries-push 0 [] es e ∙ (λ i. size_of es + reckoned.entry_bytes (here i) (key_after-none es i) e)
+    entries-push 0 [] es e ∙ (λ i. size_of es + reckoned.entry_length (here i) (key_after-none es i) e)
 
 -- every sixteenth entry is a restart
 length-restarts : (place at : ℕ) (before : Bytes) (es : List Entry) → (place + 15) / 16 + length (restarts place at before es) ≡ (place + length es + 15) / 16
@@ -77,7 +77,7 @@ length-places : (ps : List ℕ) → length (places_bytes ps) ≡ 4 * length ps
 length-places [] = refl
 length-places (p ∷ ps) = omega (arith, length-append (big_bytes 4 p) (places_bytes ps), length-places ps)
 
-length-block : (es : List Entry) → length (block_bytes es) ≡ reckoned.block_bytes (length es) (size_of es)
+length-block : (es : List Entry) → length (block_bytes es) ≡ reckoned.block_length (length es) (size_of es)
 unfolding block_bytes
 length-block es =
     let r = block_restarts es in
@@ -88,9 +88,9 @@ length-block es =
 -- the lengths of blocks and of their items
 abbrev laid : List (List Entry) → ℕ
 laid [] = 0
-laid (b ∷ blocks) = length (block_bytes b) + reckoned.item_bytes (last_key b) + laid blocks
+laid (b ∷ blocks) = length (block_bytes b) + reckoned.item_length (last_key b) + laid blocks
 
-laid-push : (blocks : List (List Entry)) (b : List Entry) → laid (blocks ++ b ∷ []) ≡ laid blocks + (length (block_bytes b) + reckoned.item_bytes (last_key b))
+laid-push : (blocks : List (List Entry)) (b : List Entry) → laid (blocks ++ b ∷ []) ≡ laid blocks + (length (block_bytes b) + reckoned.item_length (last_key b))
 laid-push [] b = omega arith
 laid-push (a ∷ blocks) b = omega (arith, laid-push blocks b)
 
@@ -112,15 +112,15 @@ cut_blocks cut = with_last cut.closed cut.begun
 
 -- behind a begun block with these entries
 abbrev behind : ℕ → List Entry → List Entry → ℕ
-behind full begun es = reckoned.body_bytes full (length begun) (size_of begun) (last_key begun) es
+behind full begun es = reckoned.body_length full (length begun) (size_of begun) (last_key begun) es
 
 no_more : (full : ℕ) (closed : List (List Entry)) (begun : List Entry) → laid (with_last closed begun) ≡ laid closed + behind full begun []
 no_more full closed [] = omega arith
 no_more full closed (e ∷ begun) =
-    let item = reckoned.item_bytes (last_key (e ∷ begun)) in
+    let item = reckoned.item_length (last_key (e ∷ begun)) in
     let some : (length (e ∷ begun) == 0) ≡ false = grind (arith, nat_tests) in
     laid-push closed (e ∷ begun) ∙ ap (λ n. laid closed + (n + item)) (length-block (e ∷ begun))
-    ∙ ap (λ b. laid closed + (if b then 0 else reckoned.block_bytes (length (e ∷ begun)) (size_of (e ∷ begun)) + item)) (sym some)
+    ∙ ap (λ b. laid closed + (if b then 0 else reckoned.block_length (length (e ∷ begun)) (size_of (e ∷ begun)) + item)) (sym some)
 
 one_more : (full : ℕ) (closed : List (List Entry)) (begun : List Entry) (e : Entry) (es : List Entry)
     → laid (cut_blocks (fold (cut_on full) (record { closed = closed ++ (begun ++ e ∷ []) ∷ []; begun = [] }) es)) ≡ laid (closed ++ (begun ++ e ∷ []) ∷ []) + behind full [] es
@@ -129,33 +129,33 @@ one_more : (full : ℕ) (closed : List (List Entry)) (begun : List Entry) (e : E
 unfolding entries_bytes
 one_more full closed begun e es if_closed if_open =
     by (nat_le full (length (block_bytes b)))
-    ∙ ap (λ n. laid closed + (if nat_le full n then n + reckoned.item_bytes e.key + behind full [] es else reckoned.body_bytes full (length b) (size_of b) e.key es)) (length-block b)
+    ∙ ap (λ n. laid closed + (if nat_le full n then n + reckoned.item_length e.key + behind full [] es else reckoned.body_length full (length b) (size_of b) e.key es)) (length-block b)
     ∙ ap (λ n. laid closed + n) same
   where
     b : List Entry
     b = begun ++ e ∷ []
 
     after : ℕ → ℕ → ℕ
-    after places grown = if nat_le full (reckoned.block_bytes places grown) then reckoned.block_bytes places grown + reckoned.item_bytes e.key + behind full [] es else reckoned.body_bytes full places grown e.key es
+    after places grown = if nat_le full (reckoned.block_length places grown) then reckoned.block_length places grown + reckoned.item_length e.key + behind full [] es else reckoned.body_length full places grown e.key es
 
     longer : length b ≡ suc (length begun)
     longer = omega (arith, length-append begun (e ∷ []))
 
-    same : after (length b) (size_of b) ≡ after (suc (length begun)) (size_of begun + reckoned.entry_bytes (length begun) (last_key begun) e)
+    same : after (length b) (size_of b) ≡ after (suc (length begun)) (size_of begun + reckoned.entry_length (length begun) (last_key begun) e)
     same = λ i. after (longer i) (size-push begun e i)
 
     by : (t : Bool) → laid (cut_blocks (fold (cut_on full) (if t then record { closed = closed ++ b ∷ []; begun = [] } else record { closed = closed; begun = b }) es))
-        ≡ laid closed + (if t then length (block_bytes b) + reckoned.item_bytes e.key + behind full [] es else reckoned.body_bytes full (length b) (size_of b) e.key es)
+        ≡ laid closed + (if t then length (block_bytes b) + reckoned.item_length e.key + behind full [] es else reckoned.body_length full (length b) (size_of b) e.key es)
     by true = omega (arith, if_closed, laid-push closed b, ap length (last_key-push begun e))
-    by false = if_open ∙ ap (λ k. laid closed + reckoned.body_bytes full (length b) (size_of b) k es) (last_key-push begun e)
+    by false = if_open ∙ ap (λ k. laid closed + reckoned.body_length full (length b) (size_of b) k es) (last_key-push begun e)
 
 laid-cut : (full : ℕ) (closed : List (List Entry)) (begun es : List Entry) → laid (cut_blocks (fold (cut_on full) (record { closed = closed; begun = begun }) es)) ≡ laid closed + behind full begun es
 laid-cut full closed begun [] = no_more full closed begun
 laid-cut full closed begun (e ∷ es) = one_more full closed begun e es (laid-cut full (closed ++ (begun ++ e ∷ []) ∷ []) [] es) (laid-cut full closed (begun ++ e ∷ []) es)
 
 -- the length of a table's bytes
-pub length_is : FilterIsLong → (o : Column) (number : ℕ) (es : List Entry) → length (table_bytes o.block_bytes number es) ≡ reckoned.table_bytes o es
-unfolding reckoned.table_bytes entries_bytes
+pub length_is : FilterIsLong → (o : Column) (number : ℕ) (es : List Entry) → length (table_bytes o.block_bytes number es) ≡ reckoned.table_length o es
+unfolding reckoned.table_length entries_bytes
 length_is long o number es =
     let blocks = blocks_of o.block_bytes es in
     let items = items_from 0 blocks in

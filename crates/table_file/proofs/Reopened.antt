@@ -4,7 +4,7 @@ use Rattle.std.proofs.lemmas.List.{drop_at}
 use Rattle.byteorder.specs.Endian.{big_number}
 use Rattle.bloom.specs.Laws.{FilterIsLong}
 use Rattle.peb_base.specs.Entries.{AreSorted}
-use Rattle.peb_base.specs.Tables.{filter_bytes}
+use Rattle.peb_base.specs.Tables.{filter_length}
 use Rattle.peb_base.specs.declared.entry.Entry.{Entry}
 use Rattle.peb_base.specs.declared.table_row.TableRow.{TableRow}
 use Rattle.table_file.specs.Form.{blocks_of, body_bytes, items_from, index_bytes, key_filter, footer_bytes, blocks_table, table_bytes}
@@ -51,7 +51,7 @@ short_index long row blocks es items filter is_entries small is_bytes o =
     let same : footer_bytes w ≡ footer_bytes f = sym (footer_behind row.number row.bytes blocks es is_bytes) ∙ (parts_of row items filter (blocks_table row.number blocks es) o).footer in
     let whole = length-table row.number blocks es in
     let place : w.index ≡ f.index = sym (index_at w (omega (arith, whole, is_bytes, small))) ∙ index_read row (footer_bytes w) f (big_number 8 (drop 8 (footer_bytes w))) o.agrees small same refl in
-    let filters : length (key_filter es) ≡ f.filter_len = long (length es) _ ∙ ap filter_bytes (sym is_entries) ∙ sym o.agrees.filter_len in
+    let filters : length (key_filter es) ≡ f.filter_len = long (length es) _ ∙ ap filter_length (sym is_entries) ∙ sym o.agrees.filter_len in
     omega (arith, whole, is_bytes, place, filters, o.agrees.adjoin, o.agrees.end, o.agrees.index_len)
 
 -- it opens with no other index and no other filter

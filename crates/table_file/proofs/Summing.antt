@@ -3,7 +3,7 @@ use Rattle.std.proofs.Common.{◌≡◌, ℕ, ◌+◌, ◌*◌, ◌^◌, ◌<◌
 use Rattle.std.proofs.lemmas.List.Sums.{sum_by_push, sum_by-cons}
 use Rattle.peb_base.specs.Entries.{value_of, IsEntry, AscendFrom, AreSorted}
 use Rattle.peb_base.specs.Keys.{Bytes}
-use Rattle.peb_base.specs.Tables.{first_key, last_key, least_number, greatest_number, raw_bytes, IsRowOf}
+use Rattle.peb_base.specs.Tables.{first_key, last_key, least_number, greatest_number, raw_length, IsRowOf}
 use Rattle.peb_base.specs.declared.table_row.TableRow.{TableRow}
 use Rattle.peb_base.specs.declared.entry.Entry.{Entry}
 use Rattle.table_file.specs.Form.{last_number}
@@ -28,7 +28,7 @@ pub greatest-push : (es : List Entry) (e : Entry) → greatest_number (es ++ e �
 greatest-push [] e = omega arith
 greatest-push (f ∷ es) e = omega (arith, greatest-push es e)
 
-pub raw-push : (es : List Entry) (e : Entry) → raw_bytes (es ++ e ∷ []) ≡ raw_bytes es + raw_bytes (e ∷ [])
+pub raw-push : (es : List Entry) (e : Entry) → raw_length (es ++ e ∷ []) ≡ raw_length es + raw_length (e ∷ [])
 raw-push es e = omega (arith, sum_by_push (λ (e : Entry). length e.key + length (value_of e.change)) es e)
 
 -- the least number of entries within their limits
@@ -38,7 +38,7 @@ least-is before above (e ∷ []) each some = omega (arith, each.0.number)
 least-is before above (e ∷ f ∷ es) each some = ap (min e.number) (least-is e.key e.number (f ∷ es) each.2 (omega arith))
 
 -- keys and values are short
-pub raw-small : (before : Bytes) (above : ℕ) (es : List Entry) → AscendFrom before above es → raw_bytes es ≤ 33792 * length es
+pub raw-small : (before : Bytes) (above : ℕ) (es : List Entry) → AscendFrom before above es → raw_length es ≤ 33792 * length es
 raw-small before above [] each = omega arith
 raw-small before above (e ∷ es) each =
     omega (arith, raw-small e.key e.number es each.2, sum_by-cons (λ (e : Entry). length e.key + length (value_of e.change)) e es, each.0.key, each.0.value)

@@ -7,7 +7,7 @@ use Rattle.bloom.specs.Laws.{FilterIsLong}
 use Rattle.peb_base.specs.Choice.{mixed}
 use Rattle.peb_base.specs.Entries.{IsEntry, AscendFrom, AreSorted}
 use Rattle.peb_base.specs.Keys.{Bytes}
-use Rattle.peb_base.specs.Tables.{last_key, filter_bytes}
+use Rattle.peb_base.specs.Tables.{last_key, filter_length}
 use Rattle.peb_base.specs.declared.entry.Entry.{Entry}
 use Rattle.peb_base.specs.declared.table_row.TableRow.{TableRow}
 use Rattle.block_form.specs.Form.{block_bytes}
@@ -126,7 +126,7 @@ written_opens grows long row full number es some_bytes most sorted some few shor
         number = sym is_number;
         entries = sym is_entries;
         few = omega (arith, is_entries, few);
-        filter_len = long (length es) (map (λ e. mixed e.key) es) ∙ ap filter_bytes (sym is_entries);
+        filter_len = long (length es) (map (λ e. mixed e.key) es) ∙ ap filter_length (sym is_entries);
         index_len = short;
         adjoin = refl;
         end = sym (is_bytes ∙ length-table number blocks es);

@@ -2,7 +2,7 @@
 use Rattle.std.specs.Prelude.{◌≡◌, ℕ, ◌+◌, ◌<◌, ◌≤◌, ◌^◌, true, List, [], ◌∷◌, ◌++◌, length}
 use Rattle.peb_base.specs.Entries.{comes_before}
 use Rattle.peb_base.specs.Keys.{Bytes}
-use Rattle.peb_base.specs.Tables.{filter_bytes}
+use Rattle.peb_base.specs.Tables.{filter_length}
 use Rattle.peb_base.specs.declared.table_row.TableRow.{TableRow}
 use Rattle.table_file.specs.Form.{index_bytes, footer_bytes}
 use Rattle.table_file.specs.declared.footer.Footer.{Footer}
@@ -33,7 +33,7 @@ pub record IsFooterOf (row : TableRow) (footer : Footer) : Type 0 where
   pub number : footer.number ≡ row.number
   pub entries : footer.entries ≡ row.entries
   pub few : row.entries ≤ 1717986918
-  pub filter_len : footer.filter_len ≡ filter_bytes row.entries
+  pub filter_len : footer.filter_len ≡ filter_length row.entries
   pub index_len : footer.index_len ≤ 2147483648
   pub adjoin : footer.index + footer.index_len ≡ footer.filter
   pub end : footer.filter + footer.filter_len + 48 ≡ row.bytes

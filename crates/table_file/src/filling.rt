@@ -1,7 +1,7 @@
 //! The filter of the keys that were written.
 
 ghost use Rattle.std.specs.Prelude.{◌≡◌, ◌≤◌, length, IfOk};
-ghost use Rattle.peb_base.specs.Tables.{filter_bytes};
+ghost use Rattle.peb_base.specs.Tables.{filter_length};
 ghost use Rattle.bloom.specs.Filter.{filter_of};
 
 use bloom::{Filter, law_filter};
@@ -12,7 +12,7 @@ use std::alloc::Global;
 pub fn filter_with(alloc: Global, hashes: &[u64]) -> Result<Filter, Memory>
     requires { length hashes.now ≤ 1717986918 }
     ensures filter { IfOk result (λ filter. filter ≡ filter_of (length hashes.now) hashes.now) }
-    ensures long { IfOk result (λ filter. length filter ≡ filter_bytes (length hashes.now)) }
+    ensures long { IfOk result (λ filter. length filter ≡ filter_length (length hashes.now)) }
 {
     law_filter();
     let mut filter = Filter::build(alloc, hashes.len() as u64)?;

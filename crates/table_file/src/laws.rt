@@ -50,7 +50,7 @@ pub fn law_blocks()
 
 /// The bytes of a table are as many as are reckoned from its entries and its profile's column alone.
 pub fn law_length()
-    ensures { (o : Column) (number : ℕ) (es : List Entry) → length (table_bytes o.block_bytes number es) ≡ reckoned.table_bytes o es }
+    ensures { (o : Column) (number : ℕ) (es : List Entry) → length (table_bytes o.block_bytes number es) ≡ reckoned.table_length o es }
 {
     law_filter();
 }

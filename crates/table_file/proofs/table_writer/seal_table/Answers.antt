@@ -1,7 +1,7 @@
 use Rattle.std.proofs.Common.{◌≡◌, ◌+◌, ◌++◌, ◌∙◌, length, ap, sym, refl, arith, rules, IsTrue}
 use Rattle.std.proofs.lemmas.List.{length-map}
 use Rattle.peb_base.specs.Choice.{mixed}
-use Rattle.peb_base.specs.Tables.{filter_bytes}
+use Rattle.peb_base.specs.Tables.{filter_length}
 use Rattle.peb_base.specs.declared.entry.Entry.{Entry}
 use Rattle.bloom.specs.Filter.{filter_of}
 use Rattle.table_file.specs.Form.{body_bytes, index_bytes, items_from, key_filter, footer_bytes, blocks_table}
@@ -12,7 +12,7 @@ use Rattle.table_file.proofs.table_writer.seal_table.Goals as goal
 pub overflow_cast-footer-2 : goal.overflow_cast-footer-2
 overflow_cast-footer-2 g c =
     let gathers = c.requires.entries.2 in
-    let long : length c.in_ok-filter.filter ≡ filter_bytes (length c.args.hashes.now) = search rules in
+    let long : length c.in_ok-filter.filter ≡ filter_length (length c.args.hashes.now) = search rules in
     omega (arith, ap length c.bytes.ensures.value, long, ap length gathers.hashes_are, length-map c.requires.entries.0 (λ (e : Entry). mixed e.key), gathers.few)
 
 pub returns-clause-table : goal.returns-clause-table
