@@ -242,7 +242,7 @@ shape_append : (s : Shape) (r es : Record) → shape_from s (r ++ es) ≡ shape_
 shape_append s [] es = refl
 shape_append s (x ∷ r) es = shape_append (grown s x) r es
 
-fit_append : (o : Column) (s : Shape) (r es : Record) → fit_from o s (r ++ es) ≡ true → (fit_from o s r ≡ true) × (fit_from o (shape_from s r) es ≡ true)
+pub fit_append : (o : Column) (s : Shape) (r es : Record) → fit_from o s (r ++ es) ≡ true → (fit_from o s r ≡ true) × (fit_from o (shape_from s r) es ≡ true)
 fit_append o s [] es h = (refl, h)
 fit_append o s (x ∷ r) es h =
     let p = and_parts (fits o s x) _ h in

@@ -46,3 +46,6 @@ pub mod ShapeLaw
 pub mod NestLaw
 pub mod BoundLaw
 pub mod Suits
+pub mod Settling
+pub mod LastLevel
+pub mod Conserved

@@ -148,16 +148,17 @@ block_of j rows m h i =
 abbrev pub top_of : ℕ → Session → ℕ
 top_of session n = session * 2 ^ 40 + 1 + n.reserved
 
--- the marks of a session: its first log, how many operations and freezes, where the memtable begins, what is frozen
+-- the marks of a session: its first log, how many operations and freezes, where the memtable begins, what is stable and what is frozen
 pub record Marks : Type 0 where
   pub log : ℕ
   pub committed : ℕ
   pub freezes : ℕ
   pub mem_from : ℕ
+  pub stable : ℕ
   pub frozen : Option ℕ
 
 abbrev pub marks_of : Session → Marks
-marks_of n = record { log = n.log; committed = n.committed; freezes = n.freezes; mem_from = n.mem_from; frozen = n.frozen }
+marks_of n = record { log = n.log; committed = n.committed; freezes = n.freezes; mem_from = n.mem_from; stable = n.stable; frozen = n.frozen }
 
 -- what is frozen is above the last flush, and its log is above the last flush's
 pub record IsFrozen (s : Shape) (n : Marks) (k : ℕ) : Type 0 where
@@ -165,6 +166,7 @@ pub record IsFrozen (s : Shape) (n : Marks) (k : ℕ) : Type 0 where
   pub above : s.to < k
   pub log : s.log < n.log + n.freezes
   pub some : 1 ≤ n.freezes
+  pub kept : k ≤ n.stable
 
 -- the marks are in order
 pub record InMarks (s : Shape) (last : ℕ) (n : Marks) : Type 0 where
@@ -173,6 +175,8 @@ pub record InMarks (s : Shape) (last : ℕ) (n : Marks) : Type 0 where
   pub logs : s.log ≤ n.log + n.freezes
   pub mem : s.to ≤ n.mem_from
   pub mem_last : n.mem_from ≤ last
+  pub stable : s.to ≤ n.stable
+  pub stable_last : n.stable ≤ last
   pub few : n.freezes ≤ n.committed + 1
   pub fewer : n.mem_from < last → n.freezes ≤ n.committed
   pub frozen : (k : ℕ) → n.frozen ≡ Some k → IsFrozen s n k
@@ -229,6 +233,8 @@ numbers_step o w (Opened session log) h a = by w.session a
             logs = omega (arith, leb-true w.tree.shape.log log p1.1);
             mem = omega arith;
             mem_last = omega arith;
+            stable = omega arith;
+            stable_last = omega arith;
             few = omega arith;
             fewer = λ l. omega arith;
             frozen = λ k q. absurd (none_some k q);
@@ -254,12 +260,36 @@ numbers_step o w (Commit actor first ops) h a =
         logs = m.logs;
         mem = m.mem;
         mem_last = omega (arith, m.mem_last, grows);
+        stable = m.stable;
+        stable_last = omega (arith, m.stable_last, grows);
         few = omega (arith, m.few);
         fewer = λ l. omega (arith, m.few, y.1);
-        frozen = λ k q. let z = m.frozen k q in record { at = z.at; above = z.above; log = z.log; some = z.some };
+        frozen = λ k q. let z = m.frozen k q in record { at = z.at; above = z.above; log = z.log; some = z.some; kept = z.kept };
       };
     }) h
-numbers_step o w (Synced actor m) h a = same_numbers w _ (λ n x. record { positive = x.positive; used = x.used; room = x.room; blocks = x.blocks; faults = x.faults; marks = x.marks }) h
+numbers_step o w (Synced actor k) h a =
+    numbers_map _ _ _ _ w.session _ (λ n e x.
+    let y = within o w (Synced actor k) n e a in
+    let m = x.marks in
+    record {
+      positive = x.positive;
+      used = x.used;
+      room = x.room;
+      blocks = x.blocks;
+      faults = x.faults;
+      marks = record {
+        log_least = m.log_least;
+        log_room = m.log_room;
+        logs = m.logs;
+        mem = m.mem;
+        mem_last = m.mem_last;
+        stable = omega (arith, m.stable);
+        stable_last = omega (arith, m.stable_last, y.1);
+        few = m.few;
+        fewer = m.fewer;
+        frozen = λ k q. let z = m.frozen k q in record { at = z.at; above = z.above; log = z.log; some = z.some; kept = omega (arith, z.kept) };
+      };
+    }) h
 numbers_step o w (Look actor m) h a = h
 numbers_step o w (Hold actor m) h a = same_numbers w _ (λ n x. record { positive = x.positive; used = x.used; room = x.room; blocks = x.blocks; faults = x.faults; marks = x.marks }) h
 numbers_step o w (Release actor m) h a = same_numbers w _ (λ n x. record { positive = x.positive; used = x.used; room = x.room; blocks = x.blocks; faults = x.faults; marks = x.marks }) h
@@ -279,9 +309,11 @@ numbers_step o w (Freeze m) h a =
         logs = omega (arith, z.logs);
         mem = omega (arith, z.mem, y.2, y.3);
         mem_last = omega (arith, y.3);
+        stable = omega (arith, z.stable);
+        stable_last = omega (arith, z.stable_last, y.3);
         few = omega (arith, z.fewer y.2);
         fewer = λ l. absurd (omega (arith, y.3));
-        frozen = λ k q. record { at = sym (some_same m k q); above = omega (arith, some_same m k q, z.mem, y.2, y.3); log = omega (arith, z.logs); some = omega arith };
+        frozen = λ k q. record { at = sym (some_same m k q); above = omega (arith, some_same m k q, z.mem, y.2, y.3); log = omega (arith, z.logs); some = omega arith; kept = omega (arith, some_same m k q) };
       };
     }) h
   where
@@ -327,9 +359,11 @@ numbers_step o w (Done actor e) h a =
           logs = omega (arith, log, x.logs);
           mem = omega (arith, to, x.mem);
           mem_last = omega (arith, to, x.mem_last);
+          stable = omega (arith, to, x.stable);
+          stable_last = omega (arith, to, x.stable_last);
           few = x.few;
           fewer = λ l. x.fewer (omega (arith, to, l));
-          frozen = λ k q. let z = x.frozen k (sym (same n.frozen) ∙ q) in record { at = z.at; above = omega (arith, to, z.above); log = omega (arith, log, z.log); some = z.some };
+          frozen = λ k q. let z = x.frozen k (sym (same n.frozen) ∙ q) in record { at = z.at; above = omega (arith, to, z.above); log = omega (arith, log, z.log); some = z.some; kept = z.kept };
         }
     done n x session (Flushes k fz to log same) =
         let z = x.frozen k fz in
@@ -339,6 +373,8 @@ numbers_step o w (Done actor e) h a =
           logs = omega (arith, log);
           mem = omega (arith, to, z.at);
           mem_last = omega (arith, to, z.at, x.mem_last);
+          stable = omega (arith, to, z.kept);
+          stable_last = omega (arith, to, z.at, z.above, x.mem_last, x.stable_last);
           few = x.few;
           fewer = λ l. x.fewer (omega (arith, to, z.at, z.above, x.mem_last, l));
           frozen = λ m q. absurd (none_some m (sym (same n.frozen) ∙ q));

@@ -12,12 +12,13 @@ use Rattle.flsm_model.specs.declared.job.Job.{Job}
 use Rattle.flsm_model.specs.Shape.{Record, Shape, empty_shape, grown, shape_from, shape_of}
 use Rattle.flsm_model.specs.Fits.{fits, fit_from, is_legal_record}
 use Rattle.flsm_model.specs.Trees.{Tree, empty_tree}
-use Rattle.flsm_model.specs.Events.{Event, Opened, Commit, Synced, Look, Hold, Release, Freeze, Begin, Done, Short, JournalFault, Stop, Session, Standing, base}
+use Rattle.flsm_model.specs.Events.{Event, Opened, Commit, Synced, Look, Hold, Release, Freeze, Begin, Done, Short, JournalFault, Stop, Session, Standing, base, last_of}
 use Rattle.flsm_model.specs.Outcomes.{IsOutcome}
 use Rattle.flsm_model.specs.Legal.{Allowed, IsLegal, IsBase, last_running, AlwaysFormed}
 use Rattle.flsm_model.specs.Placing.{PlaceInGuards}
 use Rattle.flsm_model.specs.Steps.{step, run}
 use Rattle.flsm_model.specs.Stops.{RecordIsLegal}
+use Rattle.flsm_model.specs.Fronts.{EmptyIsTrue, FrontsAreLegal, MarksInOrder}
 use Rattle.flsm_model.specs.TrueRecord.{IsTrueRecord}
 use Rattle.flsm_model.specs.Undisturbed.{Undisturbed, JobsStand, JobsUndisturbed}
 use Rattle.flsm_model.proofs.Histories.{apart_pair, job_in, known_step}
@@ -28,7 +29,7 @@ use Rattle.flsm_model.proofs.Lists.{each_in}
 use Rattle.flsm_model.proofs.Places.{shape_same}
 use Rattle.flsm_model.proofs.Structure.{fit_push}
 use Rattle.flsm_model.proofs.Truth.{All, all_base, all_step}
-use Rattle.flsm_model.proofs.Sessions.{Numbers, Spans, numbers_step, spans_step}
+use Rattle.flsm_model.proofs.Sessions.{Numbers, NumbersHold, InNumbers, Spans, numbers_step, spans_step}
 use Rattle.flsm_model.proofs.BoundLaw.{bound_from, empty_bounded}
 use Rattle.flsm_model.proofs.Jobs.{EachJob, FaultJobs, InEach, JobsApart, FaultApart, apart_step, each_step}
 use Rattle.flsm_model.proofs.Orders.{AllApart}
@@ -47,7 +48,7 @@ pub record ShapeStands (o : Column) (r : Record) (s : Shape) : Type 0 where
   pub guards : InGuards o s
   pub known : Known s
 
-shape_push : (s : Shape) (r : Record) (e : Edit) → shape_from s (r ++ e ∷ []) ≡ grown (shape_from s r) e
+pub shape_push : (s : Shape) (r : Record) (e : Edit) → shape_from s (r ++ e ∷ []) ≡ grown (shape_from s r) e
 shape_push s [] e = refl
 shape_push s (x ∷ r) e = shape_push (grown s x) r e
 
@@ -65,7 +66,7 @@ known_from : (o : Column) (s : Shape) (r : Record) → fit_from o s r ≡ true �
 known_from o s [] f h = h
 known_from o s (e ∷ es) f h = let p = and_parts (fits o s e) _ f in known_from o (grown s e) es p.1 (known_step o s e p.0 h)
 
-guards_from : (o : Column) (s : Shape) (r : Record) → fit_from o s r ≡ true → InGuards o s → InGuards o (shape_from s r)
+pub guards_from : (o : Column) (s : Shape) (r : Record) → fit_from o s r ≡ true → InGuards o s → InGuards o (shape_from s r)
 guards_from o s [] f h = h
 guards_from o s (e ∷ es) f h = let p = and_parts (fits o s e) _ f in guards_from o (grown s e) es p.1 (in_guards_step o s e h p.0)
 
@@ -187,3 +188,25 @@ jobs_stand o w n h eq =
 
 pub jobs_undisturbed : AlwaysFormed JobsUndisturbed
 jobs_undisturbed p told bs r h b legal n eq = jobs_stand (column p) _ n (formed_always p told bs r h b legal) eq
+
+pub marks_in_order : AlwaysFormed MarksInOrder
+marks_in_order p told bs r h b legal n eq =
+    let w = run (column p) (base told (column p) bs r) h in
+    let x : InNumbers w.tree.shape (last_of w) n = subst (NumbersHold w.tree.shape (last_of w)) eq (formed_always p told bs r h b legal).numbers in
+    record { flushed = x.marks.stable; stable = x.marks.stable_last; frozen = λ k q. let z = x.marks.frozen k q in (z.above, z.kept) }
+
+pub fronts_are_legal : FrontsAreLegal
+fronts_are_legal o w [] rest h = tt
+fronts_are_legal o w (e ∷ front) rest h = (h.0, fronts_are_legal o (step o w e) front rest h.1)
+
+pub empty_is_true : EmptyIsTrue
+empty_is_true p =
+    record {
+      legal = refl;
+      ordered = refl;
+      sessions = omega arith;
+      boundary = refl;
+      described = tt;
+      falls = record { falls = λ t u i. absurd i };
+      map = λ x h. ((λ n. absurd n.here.among), (λ n. absurd n.here.entry));
+    }

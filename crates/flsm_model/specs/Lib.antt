@@ -24,3 +24,6 @@ pub mod Picking
 pub mod Settled
 pub mod Told
 pub mod Sound
+pub mod Fronts
+pub mod Settling
+pub mod LastLevel

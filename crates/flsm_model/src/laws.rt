@@ -11,6 +11,9 @@ ghost use Rattle.flsm_model.specs.Reading.{MapHolds, MapShows};
 ghost use Rattle.flsm_model.specs.Stops.{RecordIsLegal, RecordIsTrue, StopLeavesBase};
 ghost use Rattle.flsm_model.specs.Undisturbed.{JobsUndisturbed};
 ghost use Rattle.flsm_model.specs.Made.{OutcomesFit, OutcomesStay};
+ghost use Rattle.flsm_model.specs.LastLevel.{WrittenByMerges};
+ghost use Rattle.flsm_model.specs.Fronts.{EmptyIsTrue, FrontsAreLegal, MarksInOrder};
+ghost use Rattle.flsm_model.specs.Settling.{EditsSettle, MeasureFalls, OutcomesConserve};
 ghost use Rattle.flsm_model.specs.Sound.{RecordsSound, RecordsNested, RecordsBounded};
 
 /// Each entry is in one live table at most.
@@ -37,10 +40,12 @@ pub fn law_map()
     ensures rows { Always MapShows }
 {}
 
-/// Above the last level each entry is written once, once more for each new guard inside its table, and once for each attempt.
+/// Above the last level each entry is written once, once more for each new guard inside its table, and once for each attempt. Further
+/// writings into the last level are those of Merges.
 pub fn law_bound()
     ensures history { Always WrittenOnce }
     ensures edits { RecordBound }
+    ensures last { Always WrittenByMerges }
 {}
 
 /// The record is legal, and true of the batches where contents are known; the tree is the one that the record spells.
@@ -74,4 +79,23 @@ pub fn law_shape()
     ensures sound { RecordsSound }
     ensures nested { RecordsNested }
     ensures bounded { RecordsBounded }
+{}
+
+/// Where nothing is stored a history begins, and each front of a legal history is legal.
+pub fn law_fronts()
+    ensures empty { EmptyIsTrue }
+    ensures fronts { FrontsAreLegal }
+{}
+
+/// What was flushed is stable, what is frozen lies above it and is stable too, and nothing above the last number is.
+pub fn law_marks()
+    ensures { AlwaysFormed MarksInOrder }
+{}
+
+/// An edit that has work, and writes no more entries than it takes, leaves less to do until the store is settled: fewer levels to go,
+/// or else fewer candidates without a guard, or else fewer tables in the last level. Outcomes write no more than their jobs take.
+pub fn law_settles()
+    ensures edits { EditsSettle }
+    ensures measure { MeasureFalls }
+    ensures outcomes { Always OutcomesConserve }
 {}
