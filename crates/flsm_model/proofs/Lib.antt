@@ -49,3 +49,5 @@ pub mod Suits
 pub mod Settling
 pub mod LastLevel
 pub mod Conserved
+pub mod Refused
+pub mod ExamplePicks

@@ -1,4 +1,4 @@
--- Which job is due: the first of those that are wanted that conflicts with no job in flight.
+-- Which job is picked: the first of those that are wanted that conflicts with no job in flight.
 use Rattle.std.specs.Prelude.{ℕ, zero, suc, ◌+◌, ◌-◌, ◌*◌, ◌^◌, Bool, true, false, ◌&&◌, not, if◌then◌else◌, List, [], ◌∷◌, ◌++◌, length, map, filter, find, nat_lt, nat_le, ◌==◌, Option, Some, None}
 use Rattle.peb_base.specs.Keys.{Bytes}
 use Rattle.peb_base.specs.Profiles.{Column}
@@ -114,6 +114,6 @@ abbrev pub beginning : Standing → Session → Job → Job
 beginning w n j =
     record j { numbers = w.tree.shape.session * 2 ^ 40 + 1 + n.reserved; floor = floor_of n.held (last_of w) }
 
--- the job that is due, if there is one
-abbrev pub due : Column → Standing → Session → Option Job
-due o w n = find (λ j. is_free j n.running) (map (beginning w n) (wanted o w.tree.shape n.frozen))
+-- the job that is picked, if there is one
+abbrev pub picked : Column → Standing → Session → Option Job
+picked o w n = find (λ j. is_free j n.running) (map (beginning w n) (wanted o w.tree.shape n.frozen))

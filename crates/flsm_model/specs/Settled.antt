@@ -5,7 +5,7 @@ use Rattle.peb_base.specs.Batches.{entries_of}
 use Rattle.peb_base.specs.Entries.{size_of, entries_between}
 use Rattle.flsm_model.specs.Events.{Event, Commit, Freeze, Session, Standing, last_of}
 use Rattle.flsm_model.specs.Steps.{step, run}
-use Rattle.flsm_model.specs.Picking.{over_at, due}
+use Rattle.flsm_model.specs.Picking.{over_at, picked}
 
 -- nothing is frozen
 abbrev pub none_frozen : Option Session → Bool
@@ -41,19 +41,19 @@ pub record Settled (o : Column) (w : Standing) (h : List Event) : Type 0 where
 
 -- ---- runs without workers
 
--- no job is due
+-- no job is picked
 abbrev pub is_idle : Column → Standing → Option Session → Bool
 is_idle o w None = true
-is_idle o w (Some n) = is_none (due o w n)
+is_idle o w (Some n) = is_none (picked o w n)
 
--- before the actor's next Commit, if there is one, no job is due at some point
+-- before the actor's next Commit, if there is one, no job is picked at some point
 abbrev pub idles_before : Column → Standing → ℕ → List Event → Bool
 idles_before o w actor [] = true
 idles_before o w actor (Commit other first ops ∷ es) =
     is_idle o w w.session || (not (other == actor) && idles_before o (step o w (Commit other first ops)) actor es)
 idles_before o w actor (e ∷ es) = is_idle o w w.session || idles_before o (step o w e) actor es
 
--- between two Commits of one actor there is a point at which no job is due
+-- between two Commits of one actor there is a point at which no job is picked
 abbrev pub idles_between : Column → Standing → List Event → Bool
 idles_between o w [] = true
 idles_between o w (Commit actor first ops ∷ es) =
