@@ -51,3 +51,5 @@ pub mod LastLevel
 pub mod Conserved
 pub mod Refused
 pub mod ExamplePicks
+pub mod Picks
+pub mod Lawful

@@ -1,19 +1,19 @@
 -- How guards lie, for every legal record.
 use Rattle.std.proofs.Common.{◌≡◌, ℕ, zero, suc, ◌<◌, ◌≤◌, Bool, true, false, ◌||◌, not, List, [], ◌∷◌, inl, inr, refl, sym, ◌∙◌, ap, subst, arith}
-use Rattle.std.specs.Prelude.{◌==◌, get_or, replicate, if◌then◌else◌}
+use Rattle.std.specs.Prelude.{◌==◌, get_or, replicate, if◌then◌else◌, ⊤}
 use Rattle.std.specs.List.{list_all}
-use Rattle.std.proofs.lemmas.Bool.{and_parts, true≢false, eqb-true}
+use Rattle.std.proofs.lemmas.Bool.{and_parts, and_from, true≢false, eqb-true}
 use Rattle.peb_base.specs.Keys.{Bytes, key_lt, key_eq}
 use Rattle.peb_base.specs.KeyLaws.{same_key, key_self}
 use Rattle.peb_base.specs.Profiles.{column, Column}
 use Rattle.peb_base.specs.declared.table_row.TableRow.{TableRow}
 use Rattle.flsm_model.specs.declared.edit.Edit.{Edit}
 use Rattle.flsm_model.specs.declared.edit.Edit.TheVariants.{Open, Flush, Move, Cut, Merge}
-use Rattle.flsm_model.specs.Ranges.{has_key, with_key, with_keys}
-use Rattle.flsm_model.specs.Shape.{Record, Shape, empty_shape, guards_at, grown, shape_from, has_number, rows_without}
+use Rattle.flsm_model.specs.Ranges.{keys_ascend, has_key, with_key, with_keys}
+use Rattle.flsm_model.specs.Shape.{Record, Shape, empty_shape, guards_at, grown, shape_from, shape_of, has_number, rows_without}
 use Rattle.flsm_model.specs.Fits.{fits, fit_from, is_guard}
 use Rattle.peb_base.specs.Members.{IsIn}
-use Rattle.flsm_model.specs.Sound.{RiseFrom, Rise, IsNested, RecordsNested}
+use Rattle.flsm_model.specs.Sound.{RecordsNested}
 use Rattle.flsm_model.proofs.Base.{kept_empty}
 use Rattle.flsm_model.proofs.Facts.{move_facts, flush_facts, cut_facts, merge_facts}
 use Rattle.flsm_model.proofs.GuardKeys.{GuardsTurn, Same, More, guards_turn, guard_stays, withs_has}
@@ -23,7 +23,25 @@ use Rattle.flsm_model.proofs.NewRows.{le_ne_lt}
 
 -- ---- keys that ascend strictly
 
-differ_back : (a b : Bytes) → key_eq a b ≡ false → key_eq b a ≡ false
+-- keys that ascend strictly, all above this one
+abbrev pub RiseFrom : Bytes → List Bytes → Type 0
+RiseFrom low [] = ⊤
+RiseFrom low (k ∷ ks) = (key_lt low k ≡ true) × RiseFrom k ks
+
+-- keys that ascend strictly
+abbrev pub Rise : List Bytes → Type 0
+Rise [] = ⊤
+Rise (k ∷ ks) = RiseFrom k ks
+
+rise_from_ascend : (k : Bytes) (ks : List Bytes) → RiseFrom k ks → keys_ascend (k ∷ ks) ≡ true
+rise_from_ascend k [] h = refl
+rise_from_ascend k (q ∷ ks) h = and_from _ _ h.0 (rise_from_ascend q ks h.1)
+
+pub rise_ascend : (ks : List Bytes) → Rise ks → keys_ascend ks ≡ true
+rise_ascend [] h = refl
+rise_ascend (k ∷ ks) h = rise_from_ascend k ks h
+
+pub differ_back : (a b : Bytes) → key_eq a b ≡ false → key_eq b a ≡ false
 differ_back a b h = by (key_eq b a) refl
   where
     by : (c : Bool) → key_eq b a ≡ c → key_eq b a ≡ false
@@ -48,7 +66,7 @@ rise_one k (g ∷ gs) h = by (key_lt k g) (key_eq k g) refl refl (λ past. rise_
     by false true x y rest = h
     by false false x y rest = rest (le_ne_lt g k (ap not x) (differ_back k g y))
 
-rise_more : (ks gs : List Bytes) → Rise gs → Rise (with_keys ks gs)
+pub rise_more : (ks gs : List Bytes) → Rise gs → Rise (with_keys ks gs)
 rise_more [] gs h = h
 rise_more (k ∷ ks) gs h = rise_one k (with_keys ks gs) (rise_more ks gs h)
 
@@ -115,7 +133,12 @@ deep_step o s (Merge floor whole inputs outputs) f h r among = elim (in_append r
   | inr new ↦ let k = merge_facts o s floor whole inputs outputs f in omega (arith, at_level o.last_level outputs r k.below new)
 ]
 
-nest_from : (o : Column) (s : Shape) (r : Record) → fit_from o s r ≡ true → InGuards o s → IsNested o s → IsNested o (shape_from s r)
+record Nests (o : Column) (s : Shape) : Type 0 where
+  pub rise : (level : ℕ) → Rise (guards_at s level)
+  pub nested : (level : ℕ) (key : Bytes) → 1 ≤ level → level < o.last_level → is_guard s level key ≡ true → is_guard s (suc level) key ≡ true
+  pub deep : (r : TableRow) → IsIn r s.live → r.level ≤ o.last_level
+
+nest_from : (o : Column) (s : Shape) (r : Record) → fit_from o s r ≡ true → InGuards o s → Nests o s → Nests o (shape_from s r)
 nest_from o s [] f g h = h
 nest_from o s (e ∷ es) f g h =
     let p = and_parts (fits o s e) _ f in
@@ -146,8 +169,9 @@ empty_none o (suc l) k = no_guard o.last_level l k
 pub records_nested : RecordsNested
 records_nested p r legal =
     let o = column p in
-    nest_from o (empty_shape o) r legal (kept_empty o).guards (record {
+    let n = nest_from o (empty_shape o) r legal (kept_empty o).guards (record {
       rise = empty_rise o;
       nested = λ l k from below guard. absurd (true≢false (sym guard ∙ empty_none o l k));
       deep = λ x i. absurd i;
-    })
+    }) in
+    record { rise = λ level. rise_ascend (guards_at (shape_of o r) level) (n.rise level); nested = n.nested; deep = n.deep }

@@ -90,7 +90,7 @@ differ_append (x ∷ xs) ys one two apart =
           | inr right ↦ apart x found.0 (inl refl) right found.2
         ])
 
-differ_fewer : (p : TableRow → Bool) (xs : List TableRow) → numbers_differ (map (λ (r : TableRow). r.number) xs) ≡ true → numbers_differ (map (λ (r : TableRow). r.number) (filter p xs)) ≡ true
+pub differ_fewer : (p : TableRow → Bool) (xs : List TableRow) → numbers_differ (map (λ (r : TableRow). r.number) xs) ≡ true → numbers_differ (map (λ (r : TableRow). r.number) (filter p xs)) ≡ true
 differ_fewer p [] h = refl
 differ_fewer p (x ∷ xs) h =
     let q = and_parts (not (has_number x.number (map (λ (r : TableRow). r.number) xs))) _ h in

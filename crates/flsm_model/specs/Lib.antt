@@ -27,3 +27,4 @@ pub mod Sound
 pub mod Fronts
 pub mod Settling
 pub mod LastLevel
+pub mod Picked

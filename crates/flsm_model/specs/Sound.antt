@@ -1,13 +1,13 @@
 -- What every legal record leaves.
-use Rattle.std.specs.Prelude.{◌≡◌, ℕ, suc, ◌+◌, ◌*◌, ◌^◌, ◌<◌, ◌≤◌, ◌⊎◌, true, Some, List, [], ◌∷◌, length, map, ⊤}
+use Rattle.std.specs.Prelude.{◌≡◌, ℕ, suc, ◌+◌, ◌*◌, ◌^◌, ◌<◌, ◌≤◌, ◌⊎◌, true, Some, length, map}
 use Rattle.peb_base.specs.Choice.{level_of}
 use Rattle.flsm_model.specs.declared.chosen.Chosen.{Chosen}
-use Rattle.peb_base.specs.Keys.{Bytes, key_le, key_lt}
+use Rattle.peb_base.specs.Keys.{Bytes, key_le}
 use Rattle.peb_base.specs.Numbers.{session_of}
 use Rattle.peb_base.specs.Profiles.{column, Column}
 use Rattle.peb_base.specs.declared.profile.Profile.{Profile}
 use Rattle.peb_base.specs.declared.table_row.TableRow.{TableRow}
-use Rattle.flsm_model.specs.Ranges.{range_of}
+use Rattle.flsm_model.specs.Ranges.{keys_ascend, range_of}
 use Rattle.flsm_model.specs.Shape.{Record, Shape, guards_at, has_number, shape_of}
 use Rattle.flsm_model.specs.Fits.{lies_in, numbers_differ, is_legal_record, is_guard}
 use Rattle.peb_base.specs.Members.{IsIn}
@@ -29,22 +29,13 @@ pub record IsSound (o : Column) (s : Shape) : Type 0 where
 abbrev pub RecordsSound : Type 0
 RecordsSound = (p : Profile) (r : Record) → is_legal_record (column p) r ≡ true → IsSound (column p) (shape_of (column p) r)
 
--- keys that ascend strictly, all above this one
-abbrev pub RiseFrom : Bytes → List Bytes → Type 0
-RiseFrom low [] = ⊤
-RiseFrom low (k ∷ ks) = (key_lt low k ≡ true) × RiseFrom k ks
-
--- keys that ascend strictly
-abbrev pub Rise : List Bytes → Type 0
-Rise [] = ⊤
-Rise (k ∷ ks) = RiseFrom k ks
-
 -- guards ascend strictly, a guard of a level is one of the next, and no live table lies below the last level
 pub record IsNested (o : Column) (s : Shape) : Type 0 where
-  pub rise : (level : ℕ) → Rise (guards_at s level)
+  pub rise : (level : ℕ) → keys_ascend (guards_at s level) ≡ true
   pub nested : (level : ℕ) (key : Bytes) → 1 ≤ level → level < o.last_level → is_guard s level key ≡ true → is_guard s (suc level) key ≡ true
   pub deep : (r : TableRow) → IsIn r s.live → r.level ≤ o.last_level
 
+-- so it is of each legal record
 abbrev pub RecordsNested : Type 0
 RecordsNested = (p : Profile) (r : Record) → is_legal_record (column p) r ≡ true → IsNested (column p) (shape_of (column p) r)
 
@@ -55,5 +46,6 @@ pub record IsBounded (o : Column) (s : Shape) : Type 0 where
   pub flushed : s.to < (s.session + 1) * 2 ^ 40
   pub choices : (c : Chosen) → IsIn c s.chosen → level_of o c.key ≡ Some c.level
 
+-- so it is of each legal record
 abbrev pub RecordsBounded : Type 0
 RecordsBounded = (p : Profile) (r : Record) → is_legal_record (column p) r ≡ true → IsBounded (column p) (shape_of (column p) r)

@@ -14,6 +14,7 @@ ghost use Rattle.flsm_model.specs.Made.{OutcomesFit, OutcomesStay};
 ghost use Rattle.flsm_model.specs.LastLevel.{WrittenByMerges};
 ghost use Rattle.flsm_model.specs.Fronts.{EmptyIsTrue, FrontsAreLegal, MarksInOrder};
 ghost use Rattle.flsm_model.specs.Settling.{EditsSettle, MeasureFalls, OutcomesConserve};
+ghost use Rattle.flsm_model.specs.Picked.{PickedIsLawful, IdleHasRoom};
 ghost use Rattle.flsm_model.specs.Sound.{RecordsSound, RecordsNested, RecordsBounded};
 
 /// Each entry is in one live table at most.
@@ -98,4 +99,14 @@ pub fn law_settles()
     ensures edits { EditsSettle }
     ensures measure { MeasureFalls }
     ensures outcomes { Always OutcomesConserve }
+{}
+
+/// A job that is picked may begin, if the session has table numbers left for it.
+pub fn law_due()
+    ensures { AlwaysFormed PickedIsLawful }
+{}
+
+/// Where no job is in flight and none is picked, nothing is frozen, and level 0 and each guard have room.
+pub fn law_idle()
+    ensures { AlwaysFormed IdleHasRoom }
 {}
