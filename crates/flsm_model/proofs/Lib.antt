@@ -53,3 +53,4 @@ pub mod Refused
 pub mod ExamplePicks
 pub mod Picks
 pub mod Lawful
+pub mod Tables

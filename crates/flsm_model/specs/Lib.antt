@@ -28,3 +28,4 @@ pub mod Fronts
 pub mod Settling
 pub mod LastLevel
 pub mod Picked
+pub mod Contents

@@ -15,6 +15,7 @@ ghost use Rattle.flsm_model.specs.LastLevel.{WrittenByMerges};
 ghost use Rattle.flsm_model.specs.Fronts.{EmptyIsTrue, FrontsAreLegal, MarksInOrder};
 ghost use Rattle.flsm_model.specs.Settling.{EditsSettle, MeasureFalls, OutcomesConserve};
 ghost use Rattle.flsm_model.specs.Picked.{PickedIsLawful, IdleHasRoom};
+ghost use Rattle.flsm_model.specs.Contents.{TablesStand, NewestIsShown};
 ghost use Rattle.flsm_model.specs.Sound.{RecordsSound, RecordsNested, RecordsBounded};
 
 /// Each entry is in one live table at most.
@@ -109,4 +110,14 @@ pub fn law_due()
 /// Where no job is in flight and none is picked, nothing is frozen, and level 0 and each guard have room.
 pub fn law_idle()
     ensures { AlwaysFormed IdleHasRoom }
+{}
+
+/// The rows of the live tables are the live ones, in their order; each tells of its table, and each table's entries ascend.
+pub fn law_tables()
+    ensures { Always TablesStand }
+{}
+
+/// A key's value in what entries show at a number is that of its newest entry at or below it.
+pub fn law_lookup()
+    ensures { NewestIsShown }
 {}
