@@ -118,6 +118,8 @@ session_of running =
       held = [];
       running = running;
       faulted = None;
+      edits_made = [];
+      jobs_cut_short = [];
     }
 
 abbrev standing : Shape → Standing

@@ -13,7 +13,7 @@ use Rattle.flsm_model.specs.Shape.{has_number}
 use Rattle.flsm_model.specs.Trees.{Table, Tree, installed, tables_without}
 use Rattle.flsm_model.specs.Events.{Event, Opened, Commit, Synced, Look, Hold, Release, Freeze, Begin, Done, Short, JournalFault, Stop, Session, Standing, Running, last_of}
 use Rattle.flsm_model.specs.Jobs.{floor_of, IsLawful}
-use Rattle.flsm_model.specs.Steps.{flushed, without_job, step, run}
+use Rattle.flsm_model.specs.Steps.{flushed, without_job, running_of, shorts_of, step, run}
 use Rattle.flsm_model.specs.Legal.{last_running, Allowed}
 use Rattle.flsm_model.specs.Outcomes.{IsEditOf, IsOutcome}
 use Rattle.flsm_model.proofs.Members.{IsIn}
@@ -261,10 +261,10 @@ shows_step o w (Done actor e) hold pl h a = by w.session refl a hold.jobs h.sess
             faults = y.faults;
           });
           shown = λ m at. outcome_step o w n n.running actor out.0 e hold.tells out.2 hold.sound mine out.1 y.floors eq h m
-              (elim at [ inl b ↦ inl b | inr b ↦ inr (subst (λ s. Readable (last_number w.batches) (option_map {T = Session} {U = Session} (λ q. record q { running = without_job q.running actor; frozen = flushed e q.frozen }) s) m) eq b) ]);
+              (elim at [ inl b ↦ inl b | inr b ↦ inr (subst (λ s. Readable (last_number w.batches) (option_map {T = Session} {U = Session} (λ q. record q { running = without_job q.running actor; frozen = flushed e q.frozen; edits_made = q.edits_made ++ e ∷ [] }) s) m) eq b) ]);
         }
 shows_step o w (Short actor cause bytes) hold pl h a =
-    let h2 = session_only o w (λ s. record s { running = without_job s.running actor })
+    let h2 = session_only o w (λ s. record s { running = without_job s.running actor; jobs_cut_short = s.jobs_cut_short ++ shorts_of bytes (running_of actor s) })
     (λ n e x. (record { stable = x.stable; stable_last = x.stable_last; frozen = x.frozen; floors = λ r i. x.floors r (in_filter (λ z. not (z.0 == actor)) r n.running i).0; faults = x.faults }, omega arith)) h in
     record { one = h2.one; levels = h2.levels; to_last = h2.to_last; session = h2.session; shown = h2.shown }
 shows_step o w JournalFault hold pl h a =

@@ -154,6 +154,8 @@ holding count =
       held = replicate count (1, 0);
       running = [];
       faulted = None;
+      edits_made = [];
+      jobs_cut_short = [];
     }
 
 abbrev opened : Standing

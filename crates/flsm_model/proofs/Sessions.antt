@@ -351,7 +351,7 @@ numbers_step o w (Done actor e) h a =
     }) h
   where
     done : (n : Session) → InMarks w.tree.shape (last_of w) (marks_of n) → (grown w.tree.shape e).session ≡ w.tree.shape.session → Turn w.tree.shape n e
-        → InMarks (grown w.tree.shape e) (last_of (step o w (Done actor e))) (marks_of (record n { running = without_job n.running actor; frozen = flushed e n.frozen }))
+        → InMarks (grown w.tree.shape e) (last_of (step o w (Done actor e))) (marks_of (record n { running = without_job n.running actor; frozen = flushed e n.frozen; edits_made = n.edits_made ++ e ∷ [] }))
     done n x session (Stays to log same) =
         record {
           log_least = x.log_least;

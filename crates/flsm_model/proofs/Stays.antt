@@ -274,7 +274,7 @@ input_content o w n r st eq (Release actor x) m a q i k h = refl
 input_content o w n r st eq (Freeze x) m a q i k h = refl
 input_content o w n r st eq (Begin actor job) m a q i k h = refl
 input_content o w n r st eq (Done actor e) m a q i k h =
-    let mm = mapped w.session (λ s. record s { running = without_job s.running actor; frozen = flushed e s.frozen }) n m eq q in
+    let mm = mapped w.session (λ s. record s { running = without_job s.running actor; frozen = flushed e s.frozen; edits_made = s.edits_made ++ e ∷ [] }) n m eq q in
     let b = beside_of o w n actor e r st eq a (subst (λ (s : Session). IsIn r s.running) (sym mm) i) in
     let c = calm_of o w n st eq in
     inputs_stay o w n b.0 r.1 e st.all eq b.1 (c (actor, b.0) b.2) (c r b.3) k h
@@ -308,7 +308,7 @@ frozen_content o w n r st ff eq j (Freeze x) m a q i k = absurd (none_is (subst 
     none_is z = absurd (false≢true z)
 frozen_content o w n r st ff eq j (Begin actor job) m a q i k = ap (λ (s : Session). frozen_entries w.batches w.tree.shape.to s.frozen) (sym (mapped w.session _ n m eq q))
 frozen_content o w n r st ff eq j (Done actor e) m a q i k =
-    let mm = mapped w.session (λ s. record s { running = without_job s.running actor; frozen = flushed e s.frozen }) n m eq q in
+    let mm = mapped w.session (λ s. record s { running = without_job s.running actor; frozen = flushed e s.frozen; edits_made = s.edits_made ++ e ∷ [] }) n m eq q in
     let b = beside_of o w n actor e r st eq a (subst (λ (s : Session). IsIn r s.running) (sym mm) i) in
     let c = calm_of o w n st eq in
     let same = no_flush o w n b.0 r.1 e b.1 (c (actor, b.0) b.2) (c r b.3) k in

@@ -1,7 +1,8 @@
 -- The laws of the jobs in flight, over any device.
 use Rattle.std.proofs.Common.{◌≡◌, ◌≤◌, ◌<◌, Bool, true, List, [], ◌∷◌, ◌++◌, refl, sym, ◌∙◌, ap, subst, arith}
-use Rattle.std.specs.Prelude.{Option, Some, None}
+use Rattle.std.specs.Prelude.{Option, Some, None, option_map, ⊤}
 use Rattle.std.proofs.lemmas.Bool.{and_parts}
+use Rattle.std.proofs.lemmas.List.{append-nil, append_assoc}
 use Rattle.peb_base.specs.Batches.{Batches, last_number}
 use Rattle.peb_base.specs.Numbers.{session_of}
 use Rattle.peb_base.specs.Profiles.{column, Column}
@@ -16,8 +17,8 @@ use Rattle.flsm_model.specs.Events.{Event, Opened, Commit, Synced, Look, Hold, R
 use Rattle.flsm_model.specs.Outcomes.{IsOutcome}
 use Rattle.flsm_model.specs.Legal.{Allowed, IsLegal, IsBase, last_running, AlwaysFormed}
 use Rattle.flsm_model.specs.Placing.{PlaceInGuards}
-use Rattle.flsm_model.specs.Steps.{step, run}
-use Rattle.flsm_model.specs.Stops.{RecordIsLegal}
+use Rattle.flsm_model.specs.Steps.{without_job, flushed, step, run}
+use Rattle.flsm_model.specs.Stops.{RecordIsLegal, EndsWithSession}
 use Rattle.flsm_model.specs.Fronts.{EmptyIsTrue, FrontsAreLegal, MarksInOrder}
 use Rattle.flsm_model.specs.TrueRecord.{IsTrueRecord}
 use Rattle.flsm_model.specs.Undisturbed.{Undisturbed, JobsStand, JobsUndisturbed}
@@ -210,3 +211,39 @@ empty_is_true p =
       falls = record { falls = λ t u i. absurd i };
       map = λ x h. ((λ n. absurd n.here.among), (λ n. absurd n.here.entry));
     }
+
+-- ---- the edits of a session
+
+abbrev Ends : Record → Option Session → Type 0
+Ends edits None = ⊤
+Ends edits (Some n) = (before : Record) × (edits ≡ before ++ n.edits_made)
+
+ends_map : (edits : Record) (s : Option Session) (f : Session → Session) → ((n : Session) → (f n).edits_made ≡ n.edits_made) → Ends edits s → Ends edits (option_map f s)
+ends_map edits None f g h = tt
+ends_map edits (Some n) f g h = (h.0, h.1 ∙ ap (λ es. h.0 ++ es) (sym (g n)))
+
+ends_step : (o : Column) (w : Standing) (e : Event) → Ends w.edits w.session → Allowed o w w.session e → Ends (step o w e).edits (step o w e).session
+ends_step o w (Opened session log) h a = (w.edits ++ Open session log ∷ [], sym (append-nil (w.edits ++ Open session log ∷ [])))
+ends_step o w (Commit actor first ops) h a = ends_map w.edits w.session _ (λ n. refl) h
+ends_step o w (Synced actor m) h a = ends_map w.edits w.session _ (λ n. refl) h
+ends_step o w (Look actor m) h a = h
+ends_step o w (Hold actor m) h a = ends_map w.edits w.session _ (λ n. refl) h
+ends_step o w (Release actor m) h a = ends_map w.edits w.session _ (λ n. refl) h
+ends_step o w (Freeze m) h a = ends_map w.edits w.session _ (λ n. refl) h
+ends_step o w (Begin actor job) h a = ends_map w.edits w.session _ (λ n. refl) h
+ends_step o w (Done actor e) h a = by w.session h
+  where
+    by : (s : Option Session) → Ends w.edits s → Ends (w.edits ++ e ∷ []) (option_map {T = Session} {U = Session} (λ s. record s { running = without_job s.running actor; frozen = flushed e s.frozen; edits_made = s.edits_made ++ e ∷ [] }) s)
+    by None x = tt
+    by (Some n) x = (x.0, ap (λ es. es ++ e ∷ []) x.1 ∙ append_assoc x.0 n.edits_made (e ∷ []))
+ends_step o w (Short actor cause bytes) h a = ends_map w.edits w.session _ (λ n. refl) h
+ends_step o w JournalFault h a = ends_map w.edits w.session _ (λ n. refl) h
+ends_step o w (Stop m None) h a = tt
+ends_step o w (Stop m (Some e)) h a = tt
+
+ends_run : (o : Column) (w : Standing) (es : List Event) → Ends w.edits w.session → IsLegal o w es → Ends (run o w es).edits (run o w es).session
+ends_run o w [] h l = h
+ends_run o w (e ∷ es) h l = ends_run o (step o w e) es (ends_step o w e h l.0) l.1
+
+pub ends_with_session : AlwaysFormed EndsWithSession
+ends_with_session p told bs r h b legal n eq = subst (Ends (run (column p) (base told (column p) bs r) h).edits) eq (ends_run (column p) (base told (column p) bs r) h tt legal)

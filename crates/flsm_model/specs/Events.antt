@@ -8,6 +8,7 @@ use Rattle.flsm_model.specs.declared.edit.Edit.{Edit}
 use Rattle.flsm_model.specs.declared.job.Job.{Job}
 use Rattle.flsm_model.specs.declared.short_cause.ShortCause.{ShortCause}
 use Rattle.flsm_model.specs.Shape.{Record}
+use Rattle.flsm_model.specs.Ledgers.{Shorts}
 use Rattle.flsm_model.specs.Trees.{Tree, tree_of}
 
 -- each is one turn of one actor at the store; `n` is the number that it was told, or names
@@ -41,6 +42,8 @@ pub record Session : Type 0 where
   pub held : List (ℕ × ℕ)  -- actors with the snapshots that they hold
   pub running : List Running
   pub faulted : Option (List Running)  -- after the journal's fault: the jobs that were in flight at it
+  pub edits_made : Record  -- after the opening's own edit
+  pub jobs_cut_short : Shorts  -- the level into which each wrote, and the bytes
 
 -- a job that was cut short, or in flight at a stop: the level into which it wrote, and the contents of its outcome
 abbrev pub Attempt : Type 0
@@ -77,4 +80,6 @@ new_session w log =
       held = [];
       running = [];
       faulted = None;
+      edits_made = [];
+      jobs_cut_short = [];
     }

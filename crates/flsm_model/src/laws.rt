@@ -8,7 +8,7 @@ ghost use Rattle.flsm_model.specs.Legal.{Always, AlwaysFormed};
 ghost use Rattle.flsm_model.specs.Placing.{OnePlace, OrderHolds, PlaceInGuards, AlwaysCut};
 ghost use Rattle.flsm_model.specs.Bounds.{WrittenOnce, RecordBound};
 ghost use Rattle.flsm_model.specs.Reading.{MapHolds, MapShows};
-ghost use Rattle.flsm_model.specs.Stops.{RecordIsLegal, RecordIsTrue, StopLeavesBase};
+ghost use Rattle.flsm_model.specs.Stops.{RecordIsLegal, EndsWithSession, RecordIsTrue, StopLeavesBase};
 ghost use Rattle.flsm_model.specs.Undisturbed.{JobsUndisturbed};
 ghost use Rattle.flsm_model.specs.Made.{OutcomesFit, OutcomesStay};
 ghost use Rattle.flsm_model.specs.LastLevel.{WrittenByMerges};
@@ -50,10 +50,12 @@ pub fn law_bound()
     ensures last { Always WrittenByMerges }
 {}
 
-/// The record is legal, and true of the batches where contents are known; the tree is the one that the record spells.
+/// The record is legal, and true of the batches where contents are known; the tree is the one that the record spells. It ends with the
+/// edits that the open session made.
 pub fn law_record()
     ensures legal { AlwaysFormed RecordIsLegal }
     ensures holds { Always RecordIsTrue }
+    ensures session { AlwaysFormed EndsWithSession }
 {}
 
 /// What stands where no session is open is a true base, and below the limit of sessions the next one may be opened.
