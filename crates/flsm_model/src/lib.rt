@@ -40,5 +40,7 @@ pub use laws::{
 pub use ledger::Ledger;
 pub use level_count::LevelCount;
 pub use mode::Mode;
+pub use range::Range;
+pub use rows::straddles;
 pub use shape::Shape;
 pub use short_cause::ShortCause;
