@@ -1,5 +1,5 @@
 -- A true record is a base from which every legal history keeps the laws.
-use Rattle.std.proofs.Common.{◌≡◌, ℕ, zero, suc, ◌<◌, true, [], ◌∷◌, replicate, get_or, refl, subst, arith}
+use Rattle.std.proofs.Common.{◌≡◌, ℕ, zero, suc, ◌<◌, true, [], ◌∷◌, replicate, get_or, refl, arith}
 use Rattle.std.proofs.lemmas.Bool.{and_parts}
 use Rattle.std.proofs.lemmas.List.{length-replicate}
 use Rattle.peb_base.specs.Batches.{Batches}
@@ -9,20 +9,17 @@ use Rattle.peb_base.specs.declared.profile.Profile.TheVariants.{Normal, Small}
 use Rattle.flsm_model.specs.Shape.{Record, empty_shape, guards_at}
 use Rattle.flsm_model.specs.Fits.{fits, fit_from}
 use Rattle.flsm_model.specs.Trees.{Tree, rows_of, installed, tree_from, empty_tree}
-use Rattle.flsm_model.specs.TrueRecord.{DescribedFrom, IsTrue}
+use Rattle.flsm_model.specs.TrueRecord.{DescribedFrom, IsTrueRecord}
 use Rattle.flsm_model.specs.Events.{base}
-use Rattle.flsm_model.specs.Steps.{run}
 use Rattle.flsm_model.specs.Legal.{Always}
-use Rattle.flsm_model.specs.Placing.{OrderHolds, PlaceInGuards}
-use Rattle.flsm_model.proofs.Members.{IsIn}
+use Rattle.flsm_model.specs.Placing.{OrderHolds}
 use Rattle.flsm_model.proofs.Bound.{rows_step}
 use Rattle.flsm_model.proofs.Guards.{AscendFrom}
-use Rattle.flsm_model.proofs.InGuards.{InGuards, InGuard, in_guards_step}
+use Rattle.flsm_model.proofs.InGuards.{InGuards, in_guards_step}
 use Rattle.flsm_model.proofs.Falls.{AllFlushed, flushed_step}
-use Rattle.flsm_model.proofs.Begin.{Spans, Known, row_in}
+use Rattle.flsm_model.proofs.Begin.{Spans, Known}
 use Rattle.flsm_model.proofs.Sorts.{AllSorted, sorted_step, spans_step}
 use Rattle.flsm_model.proofs.Histories.{known_step, Holds, holds_run}
-use Rattle.flsm_model.proofs.Lists.{each_in}
 
 -- what every legal and described record keeps
 pub record Kept (o : Column) (t : Tree) : Type 0 where
@@ -66,10 +63,11 @@ kept_from o bs t (e ∷ es) f d k =
       known = known_step o t.shape e p.0 k.known;
     })
 
-pub sound_base : (o : Column) (r : Record) (bs : Batches) → IsTrue o r bs → Holds o (base o bs r)
+pub sound_base : (o : Column) (r : Record) (bs : Batches) → IsTrueRecord o r bs → Holds o (base true o bs r)
 sound_base o r bs h =
     let k = kept_from o bs (empty_tree o) r h.legal h.described (kept_empty o) in
     record {
+      tells = refl;
       sound = record { rows = k.rows; guards = k.guards; flushed = k.flushed; falls = h.falls; spans = k.spans; sorted = k.sorted; known = k.known };
       jobs = tt;
     }
@@ -79,9 +77,4 @@ deep Normal = omega arith
 deep Small = omega arith
 
 pub order_holds : Always OrderHolds
-order_holds p bs r h base_true legal = (holds_run (column p) (base (column p) bs r) h (deep p) (sound_base (column p) r bs base_true) legal).sound.falls
-
-pub place_in_guards : Always PlaceInGuards
-place_in_guards p bs r h base_true legal t i l =
-    let s = (holds_run (column p) (base (column p) bs r) h (deep p) (sound_base (column p) r bs base_true) legal).sound in
-    each_in (InGuard (run (column p) (base (column p) bs r) h).tree.shape) t.row _ s.guards.inside (subst (IsIn t.row) s.rows (row_in t _ i)) l
+order_holds p bs r h base_true legal = (holds_run (column p) (base true (column p) bs r) h (deep p) (sound_base (column p) r bs base_true) legal).sound.falls

@@ -45,6 +45,12 @@ all_has p n (m ∷ ms) h i =
     let a = and_parts (p m) (list_all p ms) h in
     elim (or_cases (n == m) (has_number n ms) i) [ inl s ↦ ap p (eqb-true n m s) ∙ a.0 | inr r ↦ all_has p n ms a.1 r ]
 
+-- the numbers of live inputs aren't free
+pub input_known : (s : Shape) (ns : List ℕ) → Known s → list_all (is_live s) ns ≡ true → (n : ℕ) → has_number n ns ≡ true → is_fresh s n ≡ false
+input_known s ns kn l n h =
+    let r = any_in (λ (x : TableRow). x.number == n) s.live (all_has (is_live s) n ns l h) in
+    subst (λ m. is_fresh s m ≡ false) (eqb-true r.0.number n r.2) (kn.known r.0 r.1)
+
 -- a key between the ends of a row in a range is in the range
 pub key_inside : (range : Bytes × Option Bytes) (r : TableRow) (k : Bytes) → lies_in range r ≡ true → key_le r.smallest k ≡ true → key_le k r.largest ≡ true
     → in_range range.0 range.1 k ≡ true
@@ -61,9 +67,7 @@ module _ (o : Column) (t : Tree) (j : Job) (rows : rows_of t.tables ≡ t.shape.
   live_row u i = subst (IsIn u.row) rows (row_in u t.tables i)
 
   known_inputs : list_all (is_live t.shape) j.inputs ≡ true → (n : ℕ) → has_number n j.inputs ≡ true → is_fresh t.shape n ≡ false
-  known_inputs l n h =
-      let r = any_in (λ (x : TableRow). x.number == n) t.shape.live (all_has (is_live t.shape) n j.inputs l h) in
-      subst (λ m. is_fresh t.shape m ≡ false) (eqb-true r.0.number n r.2) (kn.known r.0 r.1)
+  known_inputs l n h = input_known t.shape j.inputs kn l n h
 
   pub row_inside : are_tables t.shape (job_range j) j.inputs ≡ true → (u : Table) → IsIn u t.tables → has_number u.row.number j.inputs ≡ true → lies_in (job_range j) u.row ≡ true
   row_inside a u i h =

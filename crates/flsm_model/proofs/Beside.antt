@@ -1,5 +1,5 @@
 -- What holds of a job in flight is kept while other jobs end.
-use Rattle.std.proofs.Common.{◌≡◌, ℕ, suc, ◌<◌, ◌≤◌, ◌≢◌, Bool, true, false, ◌&&◌, ◌||◌, not, List, [], ◌∷◌, ◌++◌, map, ◌⊎◌, inl, inr, refl, sym, ◌∙◌, ap, subst, arith}
+use Rattle.std.proofs.Common.{◌≡◌, ℕ, suc, ◌≤◌, ◌≢◌, Bool, true, false, ◌&&◌, ◌||◌, not, List, [], ◌∷◌, ◌++◌, map, ◌⊎◌, inl, inr, refl, sym, ◌∙◌, ap, subst, arith}
 use Rattle.std.specs.Prelude.{nat_lt, ◌==◌}
 use Rattle.std.specs.List.{list_any}
 use Rattle.std.proofs.lemmas.Bool.{and_parts, and_from, cases_Bool, eq-eqb, true≢false, false≢true, not-true}
@@ -7,7 +7,6 @@ use Rattle.flsm_model.specs.Ranges.{in_range, ranges_meet, range_of, first_of}
 use Rattle.peb_base.specs.Batches.{Batches}
 use Rattle.peb_base.specs.Numbers.{session_of, count_of}
 use Rattle.flsm_model.proofs.RangeFacts.{common_key}
-use Rattle.peb_base.specs.declared.entry.Entry.{Entry}
 use Rattle.peb_base.specs.declared.table_row.TableRow.{TableRow}
 use Rattle.peb_base.specs.Profiles.{Column}
 use Rattle.flsm_model.specs.declared.edit.Edit.{Edit}

@@ -35,14 +35,15 @@ use Rattle.flsm_model.proofs.Facts.{move_facts}
 use Rattle.flsm_model.proofs.Falls.{after}
 use Rattle.flsm_model.proofs.Begin.{keys_inside}
 use Rattle.flsm_model.proofs.Beside.{no_input}
-use Rattle.flsm_model.proofs.Histories.{job_in, fresh_rows}
+use Rattle.flsm_model.proofs.Histories.{JobsHold, JobsIn, job_in, fresh_rows}
 use Rattle.flsm_model.proofs.Places.{Within, shape_same}
 use Rattle.flsm_model.proofs.MapLaw.{SessionShows, to_after}
 use Rattle.flsm_model.proofs.Structure.{Agree, tree_same, installed_same, to_grows_from, agree_push}
 use Rattle.flsm_model.proofs.Base.{deep}
 use Rattle.flsm_model.proofs.GuardKeys.{guard_stays}
-use Rattle.flsm_model.proofs.Truth.{All, Books, all_base, all_step, shape_told, books_edit, agree_drop}
-use Rattle.flsm_model.proofs.Sessions.{Numbers, numbers_step}
+use Rattle.flsm_model.proofs.Truth.{All, Books, shape_told, books_edit, agree_drop}
+use Rattle.flsm_model.proofs.Undisturb.{chosen_left}
+use Rattle.flsm_model.proofs.Whole.{Stands, stands_base, stands_step}
 use Rattle.flsm_model.proofs.Jobs.{EachJob, FaultJobs, InEach, Ends, each_step}
 use Rattle.flsm_model.proofs.Lists.{all_in, any_in, in_kept}
 
@@ -70,10 +71,6 @@ level_some o k l level (suc count) a b h = by (meets o level k) refl (λ ne. lev
 
 pub record PutsChosen (o : Column) (t : Tree) : Type 0 where
   pub chosen : (u : Table) (x : Entry) → IsIn u t.tables → IsIn x u.entries → is_put x.change ≡ true → meets o o.last_level x.key ≡ true → is_chosen t.shape.chosen x.key ≡ true
-
-pub chosen_left : (cs ds : List Chosen) (k : Bytes) → is_chosen cs k ≡ true → is_chosen (cs ++ ds) k ≡ true
-chosen_left [] ds k h = absurd (false≢true h)
-chosen_left (c ∷ cs) ds k h = elim (or_cases (key_eq k c.key) (is_chosen cs k) h) [ inl s ↦ or_left _ _ s | inr r ↦ or_right (key_eq k c.key) _ (chosen_left cs ds k r) ]
 
 chosen_right : (cs ds : List Chosen) (k : Bytes) → is_chosen ds k ≡ true → is_chosen (cs ++ ds) k ≡ true
 chosen_right [] ds k h = h
@@ -168,8 +165,8 @@ first_guard : (s : Shape) (k : Bytes) (level count : ℕ) → 0 < count → is_g
 first_guard s k level zero l h = absurd (omega arith)
 first_guard s k level (suc count) l h = (and_parts _ _ h).0
 
-cut_starts : (o : Column) → 0 < o.last_level → (w : Standing) (n : Session) (j : Job) → All o w → Numbers w → w.session ≡ Some n → IsLawful o w n j → IsCutFor o w.tree j
-cut_starts o d w n j al nu eq l = record { cut = λ k u x i m q p me. by k (subst (λ a. IsOfKind a o w.tree.shape n j) k l.kind) u x i m q p me }
+cut_starts : (o : Column) → 0 < o.last_level → (w : Standing) (n : Session) (j : Job) → All o w → w.session ≡ Some n → IsLawful o w n j → IsCutFor o w.tree j
+cut_starts o d w n j al eq l = record { cut = λ k u x i m q p me. by k (subst (λ a. IsOfKind a o w.tree.shape n j) k l.kind) u x i m q p me }
   where
     by : j.kind ≡ MoveJob → IsMove o w.tree.shape n j → (u : Table) (x : Entry) → IsIn u w.tree.tables → has_number u.row.number j.inputs ≡ true → IsIn x u.entries → is_put x.change ≡ true
         → meets o (suc j.level) x.key ≡ true → is_guard w.tree.shape (suc j.level) x.key ≡ true
@@ -185,18 +182,19 @@ cut_starts o d w n j al nu eq l = record { cut = λ k u x i m q p me. by k (subs
           | inr g ↦ subst (λ z. is_guard w.tree.shape (suc j.level) z ≡ true) (sym same) (first_guard w.tree.shape c.0.key (suc j.level) (suc o.last_level - suc j.level) (omega (arith, f.above)) g)
         ]
 
-cut_kept : (o : Column) (w : Standing) (n : Session) (j k : Job) (e : Edit) → All o w → Numbers w → w.session ≡ Some n → Ends o w n j k e → IsCutFor o w.tree j → IsCutFor o w.tree k → IsCutFor o (installed o w.batches w.tree e) k
-cut_kept o w n j k e al nu eq en hj hk =
+cut_kept : (o : Column) (w : Standing) (n : Session) (j k : Job) (e : Edit) → All o w → w.session ≡ Some n → Ends o w n j k e → IsCutFor o w.tree j → IsCutFor o w.tree k → IsCutFor o (installed o w.batches w.tree e) k
+cut_kept o w n j k e al eq en hj hk =
+    let jobs : JobsIn o w.tree n = subst (JobsHold o w.tree) eq al.holds.jobs in
     record {
       cut = λ kind u x i m q p me. elim (after o w.batches w.tree e u i) [
-        | inl a ↦ guard_stays o w.tree.shape e (suc k.level) x.key al.holds.sound.guards en.outcome.fit (hk.cut kind u x a.0 m q p me)
-        | inr b ↦ absurd (true≢false (sym m ∙ no_input o w.batches w.tree e k u (fresh_rows o w.tree.shape e en.outcome.fit) en.other b))
+        | inl a ↦ guard_stays o w.tree.shape e (suc k.level) x.key al.holds.sound.guards en.outcome.formed.fit (hk.cut kind u x a.0 m q p me)
+        | inr b ↦ absurd (true≢false (sym m ∙ no_input o w.batches w.tree e k u (fresh_rows o w.tree.shape e en.outcome.formed.fit) (jobs.now.each (en.other.0, k) en.other.1) b))
       ];
     }
 
 -- the outcome of a job in flight finds its candidates cut
 cut_outcome : (o : Column) (w : Standing) (n : Session) (j : Job) (e : Edit) → IsOutcome o w n j e → IsCutFor o w.tree j → CutBefore o w.tree e
-cut_outcome o w n j e out h = by j.kind refl e out.same
+cut_outcome o w n j e out h = by j.kind refl e out.formed.same
   where
     by : (a : JobKind) → j.kind ≡ a → (e : Edit) → IsEditOf a n j e → CutBefore o w.tree e
     by FlushJob k (Flush row from to log chosen) q = tt
@@ -244,7 +242,7 @@ shape_append : (s : Shape) (r es : Record) → shape_from s (r ++ es) ≡ shape_
 shape_append s [] es = refl
 shape_append s (x ∷ r) es = shape_append (grown s x) r es
 
-fit_append : (o : Column) (s : Shape) (r es : Record) → fit_from o s (r ++ es) ≡ true → (fit_from o s r ≡ true) × (fit_from o (shape_from s r) es ≡ true)
+pub fit_append : (o : Column) (s : Shape) (r es : Record) → fit_from o s (r ++ es) ≡ true → (fit_from o s r ≡ true) × (fit_from o (shape_from s r) es ≡ true)
 fit_append o s [] es h = (refl, h)
 fit_append o s (x ∷ r) es h =
     let p = and_parts (fits o s x) _ h in
@@ -330,14 +328,13 @@ moves_step o r w (Stop m (Some e)) al ea h a = by w.session a ea al.shows.sessio
         let out = job_in (last_running n) x.2.0 (λ q. IsOutcome o w n q e) x.2.1 in
         let mid : Standing = edited o w e in
         let one : MovesAreCut o r mid = moves_edit o r w e mid refl refl al (cut_outcome o w n out.0 e out.2 (last_each (IsCutFor o) w.tree n y (x.2.0, out.0) out.1)) h in
-        let books : Books o mid.batches mid.edits mid.tree = books_edit o w.batches w.edits w.tree e al.told.books out.2.fit out.2.holds out.2.chooses in
-        moves_batches o r mid _ m refl (agree_drop 0 m w.batches al.placed.ordered x.0) (omega (arith, to_after o w n out.0 e out.2.same z, x.1)) books one
+        let books : Books o mid.batches mid.edits mid.tree = books_edit o w.batches w.edits w.tree e al.told.books out.2.formed.fit (out.2.holds al.holds.tells) (out.2.chooses al.holds.tells) in
+        moves_batches o r mid _ m refl (agree_drop 0 m w.batches al.placed.ordered x.0) (omega (arith, to_after o w n out.0 e out.2.formed.same z, x.1)) books one
 
 -- ---- the law
 
 pub record AllCut (o : Column) (r : Record) (w : Standing) : Type 0 where
-  pub all : All o w
-  pub numbers : Numbers w
+  pub stands : Stands o w
   pub each : InEach (IsCutFor o) w.tree w.session
   pub moves : MovesAreCut o r w
 
@@ -345,10 +342,10 @@ cut_run : (o : Column) (r : Record) (w : Standing) (es : List Event) → 0 < o.l
 cut_run o r w [] d h l = h
 cut_run o r w (e ∷ es) d h l =
     cut_run o r (step o w e) es d (record {
-      all = all_step o w e d h.all l.0;
-      numbers = numbers_step o w e h.all h.numbers l.0;
-      each = each_step o (IsCutFor o) (cut_starts o d) (cut_kept o) w e h.all h.numbers h.each l.0;
-      moves = moves_step o r w e h.all h.each h.moves l.0;
+      stands = stands_step o w e d h.stands l.0;
+      each = each_step o (Stands o) (IsCutFor o) (λ v st. (st.formed.apart, st.formed.numbers)) (λ v n j st. cut_starts o d v n j st.all) (λ v n j k x st. cut_kept o v n j k x st.all)
+          w e h.stands h.each l.0;
+      moves = moves_step o r w e h.stands.all h.each h.moves l.0;
     }) l.1
 
 append_none : (r : Record) → r ≡ r ++ []
@@ -357,5 +354,5 @@ append_none (e ∷ r) = ap (λ z. e ∷ z) (append_none r)
 
 pub always_cut : AlwaysCut
 always_cut p bs r h base_true legal =
-    (cut_run (column p) r (base (column p) bs r) h (deep p)
-    (record { all = all_base (column p) bs r base_true; numbers = tt; each = tt; moves = record { since = []; edits = append_none r; cut = tt } }) legal).moves
+    (cut_run (column p) r (base true (column p) bs r) h (deep p)
+    (record { stands = stands_base (column p) bs r base_true; each = tt; moves = record { since = []; edits = append_none r; cut = tt } }) legal).moves

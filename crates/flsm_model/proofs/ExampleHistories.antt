@@ -43,7 +43,7 @@ reads =
     ∷ Opened 2 1
     ∷ []
 
-reads_are_legal : IsLegal small (base small [] []) reads
+reads_are_legal : IsLegal small (base true small [] []) reads
 reads_are_legal =
     (refl, refl, omega arith)
     then refl then (refl, omega arith)
@@ -78,45 +78,45 @@ at_once =
     ∷ Stop (n 3) None
     ∷ []
 
-at_once_is_legal : IsLegal small (base small [] []) at_once
+at_once_is_legal : IsLegal small (base true small [] []) at_once
 unfolding table_length bits lib.Count.count_trailing_zeros
 at_once_is_legal =
     (refl, refl, omega arith)
     then (refl, omega arith, omega arith, refl, omega arith)
     then (refl, refl, omega arith, refl)
     then (refl, refl, record { free = refl; floor = refl; numbers = refl; room = omega arith; kind = record { frozen = refl; range = (refl, refl); level = refl; nothing = (refl, refl) } })
-    then (refl, record { same = (refl, refl); fit = refl; holds = (described 1 0 (put 97 1 49) [], tt); chooses = refl; numbers = refl })
+    then (refl, record { formed = record { same = (refl, refl); fit = refl; inside = refl; numbers = refl }; holds = λ told. (described 1 0 (put 97 1 49) [], tt); chooses = λ told. refl })
     then (refl, omega arith, omega arith, refl, omega arith)
     then (refl, refl, omega arith, refl)
     then (refl, refl, record { free = refl; floor = refl; numbers = refl; room = omega arith; kind = record { frozen = refl; range = (refl, refl); level = refl; nothing = (refl, refl) } })
-    then (refl, record { same = (refl, refl); fit = refl; holds = (described 2 0 (put 111 2 50) [], tt); chooses = refl; numbers = refl })
+    then (refl, record { formed = record { same = (refl, refl); fit = refl; inside = refl; numbers = refl }; holds = λ told. (described 2 0 (put 111 2 50) [], tt); chooses = λ told. refl })
     then (refl, omega arith, omega arith, refl, omega arith)
     then (refl, refl, omega arith, refl)
     then (refl, refl, record { free = refl; floor = refl; numbers = refl; room = omega arith; kind = record { frozen = refl; range = (refl, refl); level = refl; nothing = (refl, refl) } })
     then (refl, refl, record { free = refl; floor = refl; numbers = refl; room = omega arith; kind = record { range = refl; fit = refl; inside = refl; keys = refl } })
-    then (refl, record { same = (refl, refl); fit = refl; holds = (described 3 0 (put 122 3 51) [], tt); chooses = refl; numbers = refl })
-    then (refl, record { same = (refl, refl, refl); fit = refl; holds = tt; chooses = tt; numbers = refl })
+    then (refl, record { formed = record { same = (refl, refl); fit = refl; inside = refl; numbers = refl }; holds = λ told. (described 3 0 (put 122 3 51) [], tt); chooses = λ told. refl })
+    then (refl, record { formed = record { same = (refl, refl, refl); fit = refl; inside = refl; numbers = refl }; holds = λ told. tt; chooses = λ told. tt })
     then (refl, refl, record { free = refl; floor = refl; numbers = refl; room = omega arith; kind = record { range = refl; fit = refl; inside = refl; keys = refl } })
-    then (refl, record { same = (refl, refl, refl); fit = refl; holds = tt; chooses = tt; numbers = refl })
+    then (refl, record { formed = record { same = (refl, refl, refl); fit = refl; inside = refl; numbers = refl }; holds = λ told. tt; chooses = λ told. tt })
     then (refl, refl, record { free = refl; floor = refl; numbers = refl; room = omega arith; kind = record { range = refl; fit = refl; inside = refl; keys = refl } })
-    then (refl, record { same = (refl, refl, refl); fit = refl; holds = tt; chooses = tt; numbers = refl })
+    then (refl, record { formed = record { same = (refl, refl, refl); fit = refl; inside = refl; numbers = refl }; holds = λ told. tt; chooses = λ told. tt })
     then (refl, refl, record { free = refl; floor = refl; numbers = refl; room = omega arith; kind = record { range = refl; fit = refl; inside = refl; all = refl; committed = refl; keys = refl } })
-    then (refl, record { same = (refl, refl, refl); fit = refl; holds = (described 4 1 (put 97 1 49) [], (described 5 1 (put 111 2 50) (put 122 3 51 ∷ []), tt)); chooses = tt; numbers = refl })
+    then (refl, record { formed = record { same = (refl, refl, refl); fit = refl; inside = refl; numbers = refl }; holds = λ told. (described 4 1 (put 97 1 49) [], (described 5 1 (put 111 2 50) (put 122 3 51 ∷ []), tt)); chooses = λ told. tt })
     then (refl, omega arith, tt)
     then tt
 
 -- before its stop the store is settled, and it was idle between two Commits
-at_once_room : (level : ℕ) → level ≤ small.last_level → over_at small (run small (base small [] []) (take 21 at_once)).tree.shape level ≡ []
+at_once_room : (level : ℕ) → level ≤ small.last_level → over_at small (run small (base true small [] []) (take 21 at_once)).tree.shape level ≡ []
 at_once_room zero le = refl
 at_once_room (suc zero) le = refl
 at_once_room (suc (suc zero)) le = refl
 at_once_room (suc (suc (suc zero))) le = refl
 at_once_room (suc (suc (suc (suc level)))) le = absurd (omega (arith, le))
 
-at_once_settles : Settled small (base small [] []) (take 21 at_once)
+at_once_settles : Settled small (base true small [] []) (take 21 at_once)
 at_once_settles = record { frozen = refl; room = at_once_room; in_time = refl }
 
-at_once_idles : idles_between small (base small [] []) (take 21 at_once) ≡ true
+at_once_idles : idles_between small (base true small [] []) (take 21 at_once) ≡ true
 unfolding bits lib.Count.count_trailing_zeros
 at_once_idles = refl
 
@@ -152,35 +152,35 @@ merges =
     ∷ Begin 2 merge_job ∷ Done 2 (Merge (n 2) true (n 4 ∷ n 8 ∷ []) [])
     ∷ []
 
-merges_are_legal : IsLegal small (base small [] []) merges
+merges_are_legal : IsLegal small (base true small [] []) merges
 unfolding table_length bits lib.Count.count_trailing_zeros
 merges_are_legal =
     (refl, refl, omega arith)
     then (refl, omega arith, omega arith, refl, omega arith)
     then (refl, refl, omega arith, refl)
     then (refl, refl, record { free = refl; floor = refl; numbers = refl; room = omega arith; kind = record { frozen = refl; range = (refl, refl); level = refl; nothing = (refl, refl) } })
-    then (refl, record { same = (refl, refl); fit = refl; holds = (described 1 0 (put 97 1 49) [], tt); chooses = refl; numbers = refl })
+    then (refl, record { formed = record { same = (refl, refl); fit = refl; inside = refl; numbers = refl }; holds = λ told. (described 1 0 (put 97 1 49) [], tt); chooses = λ told. refl })
     then (refl, refl, record { free = refl; floor = refl; numbers = refl; room = omega arith; kind = record { range = refl; fit = refl; inside = refl; all = refl; committed = refl; keys = refl } })
-    then (refl, record { same = (refl, refl, refl); fit = refl; holds = (described 2 1 (put 97 1 49) [], tt); chooses = tt; numbers = refl })
+    then (refl, record { formed = record { same = (refl, refl, refl); fit = refl; inside = refl; numbers = refl }; holds = λ told. (described 2 1 (put 97 1 49) [], tt); chooses = λ told. tt })
     then (refl, refl, record { free = refl; floor = refl; numbers = refl; room = omega arith; kind = record { range = refl; fit = refl; inside = refl; all = refl; committed = refl; keys = refl } })
-    then (refl, record { same = (refl, refl, refl); fit = refl; holds = (described 3 2 (put 97 1 49) [], tt); chooses = tt; numbers = refl })
+    then (refl, record { formed = record { same = (refl, refl, refl); fit = refl; inside = refl; numbers = refl }; holds = λ told. (described 3 2 (put 97 1 49) [], tt); chooses = λ told. tt })
     then (refl, refl, record { free = refl; floor = refl; numbers = refl; room = omega arith; kind = record { range = refl; fit = refl; inside = refl; all = refl; committed = refl; keys = refl } })
-    then (refl, record { same = (refl, refl, refl); fit = refl; holds = (described 4 3 (put 97 1 49) [], tt); chooses = tt; numbers = refl })
+    then (refl, record { formed = record { same = (refl, refl, refl); fit = refl; inside = refl; numbers = refl }; holds = λ told. (described 4 3 (put 97 1 49) [], tt); chooses = λ told. tt })
     then (refl, omega arith, omega arith, refl, omega arith)
     then (refl, refl, omega arith, refl)
     then (refl, refl, record { free = refl; floor = refl; numbers = refl; room = omega arith; kind = record { frozen = refl; range = (refl, refl); level = refl; nothing = (refl, refl) } })
-    then (refl, record { same = (refl, refl); fit = refl; holds = (described 5 0 (delete 97 2) [], tt); chooses = refl; numbers = refl })
+    then (refl, record { formed = record { same = (refl, refl); fit = refl; inside = refl; numbers = refl }; holds = λ told. (described 5 0 (delete 97 2) [], tt); chooses = λ told. refl })
     then (refl, refl, record { free = refl; floor = refl; numbers = refl; room = omega arith; kind = record { range = refl; fit = refl; inside = refl; all = refl; committed = refl; keys = refl } })
-    then (refl, record { same = (refl, refl, refl); fit = refl; holds = (described 6 1 (delete 97 2) [], tt); chooses = tt; numbers = refl })
+    then (refl, record { formed = record { same = (refl, refl, refl); fit = refl; inside = refl; numbers = refl }; holds = λ told. (described 6 1 (delete 97 2) [], tt); chooses = λ told. tt })
     then (refl, refl, record { free = refl; floor = refl; numbers = refl; room = omega arith; kind = record { range = refl; fit = refl; inside = refl; all = refl; committed = refl; keys = refl } })
-    then (refl, record { same = (refl, refl, refl); fit = refl; holds = (described 7 2 (delete 97 2) [], tt); chooses = tt; numbers = refl })
+    then (refl, record { formed = record { same = (refl, refl, refl); fit = refl; inside = refl; numbers = refl }; holds = λ told. (described 7 2 (delete 97 2) [], tt); chooses = λ told. tt })
     then (refl, refl, record { free = refl; floor = refl; numbers = refl; room = omega arith; kind = record { range = refl; fit = refl; inside = refl; all = refl; committed = refl; keys = refl } })
-    then (refl, record { same = (refl, refl, refl); fit = refl; holds = (described 8 3 (delete 97 2) [], tt); chooses = tt; numbers = refl })
+    then (refl, record { formed = record { same = (refl, refl, refl); fit = refl; inside = refl; numbers = refl }; holds = λ told. (described 8 3 (delete 97 2) [], tt); chooses = λ told. tt })
     then (refl, refl, record { free = refl; floor = refl; numbers = refl; room = omega arith; kind = record { level = refl; range = refl; fit = refl; inside = refl; whole = refl; keys = refl } })
-    then (refl, record { same = (refl, refl, refl); fit = refl; holds = tt; chooses = tt; numbers = refl })
+    then (refl, record { formed = record { same = (refl, refl, refl); fit = refl; inside = refl; numbers = refl }; holds = λ told. tt; chooses = λ told. tt })
     then tt
 
-no_table_is_left : (run small (base small [] []) merges).tree.tables ≡ []
+no_table_is_left : (run small (base true small [] []) merges).tree.tables ≡ []
 unfolding table_length
 no_table_is_left = refl
 
@@ -196,7 +196,7 @@ stops =
     ∷ Opened 2 2
     ∷ []
 
-stops_are_legal : IsLegal small (base small [] []) stops
+stops_are_legal : IsLegal small (base true small [] []) stops
 unfolding table_length bits lib.Count.count_trailing_zeros
 stops_are_legal =
     (refl, refl, omega arith)
@@ -206,13 +206,13 @@ stops_are_legal =
     then omega arith
     then (refl, refl, record { free = refl; floor = refl; numbers = refl; room = omega arith; kind = record { frozen = refl; range = (refl, refl); level = refl; nothing = (refl, refl) } })
     then refl
-    then (refl, omega arith, (2, record { same = (refl, refl); fit = refl; holds = (described 2 0 (put 97 1 49) [], tt); chooses = refl; numbers = refl }))
+    then (refl, omega arith, (2, record { formed = record { same = (refl, refl); fit = refl; inside = refl; numbers = refl }; holds = λ told. (described 2 0 (put 97 1 49) [], tt); chooses = λ told. refl }))
     then (refl, refl, omega arith)
     then tt
 
 -- the entry was written into level 0 by the edit, and twice in vain
 abbrev after_stop : Standing
-after_stop = run small (base small [] []) stops
+after_stop = run small (base true small [] []) stops
 
 stops_counts : (written small after_stop (n 1) 0 ≡ 3) × (cut small after_stop (n 1) 0 ≡ 0) × (attempted after_stop (n 1) 0 ≡ 2)
 stops_counts = (refl, refl, refl)

@@ -15,7 +15,7 @@ use Rattle.flsm_model.specs.Fits.{fits, is_guard}
 use Rattle.flsm_model.proofs.Facts.{cut_facts}
 use Rattle.flsm_model.proofs.InGuards.{InGuards, guards_after}
 
-has_with : (x k : Bytes) (gs : List Bytes) → has_key x gs ≡ true → has_key x (with_key k gs) ≡ true
+pub has_with : (x k : Bytes) (gs : List Bytes) → has_key x gs ≡ true → has_key x (with_key k gs) ≡ true
 has_with x k [] h = absurd (false≢true h)
 has_with x k (g ∷ gs) h = by (key_lt k g) (key_eq k g) h (has_with x k gs)
   where

@@ -129,7 +129,7 @@ apart_pair (q ∷ rs) r s h i k ne = elim i [
   ]
 ]
 
-apart_filter : (p : Running → Bool) (rs : List Running) → AllApart rs → AllApart (filter p rs)
+pub apart_filter : (p : Running → Bool) (rs : List Running) → AllApart rs → AllApart (filter p rs)
 apart_filter p [] h = tt
 apart_filter p (r ∷ rs) h = by (p r) (apart_filter p rs h.1)
   where
@@ -158,9 +158,9 @@ ended o w n rs actor j e out s here h =
       each = λ r i.
           let p = in_filter (λ (x : Running). not (x.0 == actor)) r rs i in
           let ne : r.0 ≢ actor = eqb-false r.0 actor (not-true _ p.1) in
-          beside_step o w.batches w.tree j r.1 e out.fit s.rows s.flushed (h.each (actor, j) here) (for_job n j e out.same)
+          beside_step o w.batches w.tree j r.1 e out.formed.fit s.rows s.flushed (h.each (actor, j) here) (for_job n j e out.formed.same)
           (apart_pair rs (actor, j) r h.apart here p.0 (λ x. ne (sym x)))
-          (λ x y same. never_open n j x y (subst (λ z. IsEditOf j.kind n j z) same out.same)) (h.each r p.0);
+          (λ x y same. never_open n j x y (subst (λ z. IsEditOf j.kind n j z) same out.formed.same)) (h.each r p.0);
       apart = apart_filter _ rs h.apart;
     }
 
@@ -179,6 +179,7 @@ JobsHold o t None = ⊤
 JobsHold o t (Some n) = JobsIn o t n
 
 pub record Holds (o : Column) (w : Standing) : Type 0 where
+  pub tells : w.told ≡ true
   pub sound : Sound o w.tree
   pub jobs : JobsHold o w.tree w.session
 
@@ -195,7 +196,7 @@ last_jobs o t n h = by n.faulted h.fault
     by None y = h.now
     by (Some rs) y = y
 
-free_each : (o : Column) (j : Job) (rs : List Running) → is_free j rs ≡ true → (s : Running) → IsIn s rs → (jobs_conflict j s.1 ≡ false) × (jobs_conflict s.1 j ≡ false)
+pub free_each : (o : Column) (j : Job) (rs : List Running) → is_free j rs ≡ true → (s : Running) → IsIn s rs → (jobs_conflict j s.1 ≡ false) × (jobs_conflict s.1 j ≡ false)
 free_each o j [] f s i = absurd i
 free_each o j (r ∷ rs) f s i =
     let a = and_parts (not (jobs_conflict j r.1)) (is_free j rs) f in
@@ -219,18 +220,20 @@ holds_step o w (Opened session log) deep h a = by w.session a
     by : (s : Option Session) → Allowed o w s (Opened session log) → Holds o (step o w (Opened session log))
     by None x =
         record {
+          tells = h.tells;
           sound = open_step o w.batches w.tree session log x.0 h.sound;
           jobs = record { now = record { each = λ r i. absurd i; apart = tt }; fault = tt };
         }
     by (Some n) x = absurd x
-holds_step o w (Commit actor first ops) deep h a = record { sound = h.sound; jobs = same_jobs o w.tree w _ (λ n. refl) (λ n. refl) h.jobs }
-holds_step o w (Synced actor m) deep h a = record { sound = h.sound; jobs = same_jobs o w.tree w _ (λ n. refl) (λ n. refl) h.jobs }
+holds_step o w (Commit actor first ops) deep h a = record { tells = h.tells; sound = h.sound; jobs = same_jobs o w.tree w _ (λ n. refl) (λ n. refl) h.jobs }
+holds_step o w (Synced actor m) deep h a = record { tells = h.tells; sound = h.sound; jobs = same_jobs o w.tree w _ (λ n. refl) (λ n. refl) h.jobs }
 holds_step o w (Look actor m) deep h a = h
-holds_step o w (Hold actor m) deep h a = record { sound = h.sound; jobs = same_jobs o w.tree w _ (λ n. refl) (λ n. refl) h.jobs }
-holds_step o w (Release actor m) deep h a = record { sound = h.sound; jobs = same_jobs o w.tree w _ (λ n. refl) (λ n. refl) h.jobs }
-holds_step o w (Freeze m) deep h a = record { sound = h.sound; jobs = same_jobs o w.tree w _ (λ n. refl) (λ n. refl) h.jobs }
+holds_step o w (Hold actor m) deep h a = record { tells = h.tells; sound = h.sound; jobs = same_jobs o w.tree w _ (λ n. refl) (λ n. refl) h.jobs }
+holds_step o w (Release actor m) deep h a = record { tells = h.tells; sound = h.sound; jobs = same_jobs o w.tree w _ (λ n. refl) (λ n. refl) h.jobs }
+holds_step o w (Freeze m) deep h a = record { tells = h.tells; sound = h.sound; jobs = same_jobs o w.tree w _ (λ n. refl) (λ n. refl) h.jobs }
 holds_step o w (Begin actor job) deep h a =
     record {
+      tells = h.tells;
       sound = h.sound;
       jobs = jobs_map o w.tree w.tree w.session _ (λ n s j.
           let x = within o w (Begin actor job) n s a in
@@ -254,7 +257,8 @@ holds_step o w (Done actor e) deep h a = by w.session refl a h.jobs
         let out = job_in n.running actor (λ k. IsOutcome o w n k e) x.1 in
         let mine : InFlight o w.tree out.0 = j.now.each (actor, out.0) out.1 in
         record {
-          sound = sound_step o w.batches w.tree out.0 e out.2.fit out.2.holds h.sound mine (for_job n out.0 e out.2.same);
+          tells = h.tells;
+          sound = sound_step o w.batches w.tree out.0 e out.2.formed.fit (out.2.holds h.tells) h.sound mine (for_job n out.0 e out.2.formed.same);
           jobs = rw eq (record {
             now = ended o w n n.running actor out.0 e out.2 h.sound out.1 j.now;
             fault = subst (JobsAt o (installed o w.batches w.tree e)) (sym x.0) tt;
@@ -262,12 +266,13 @@ holds_step o w (Done actor e) deep h a = by w.session refl a h.jobs
         }
 holds_step o w (Short actor cause bytes) deep h a =
     record {
+      tells = h.tells;
       sound = h.sound;
       jobs = jobs_map o w.tree w.tree w.session _ (λ n s j. record { now = fewer o w.tree (λ r. not (r.0 == actor)) n.running j.now; fault = j.fault }) h.jobs;
     }
 holds_step o w JournalFault deep h a =
-    record { sound = h.sound; jobs = jobs_map o w.tree w.tree w.session _ (λ n s j. record { now = j.now; fault = j.now }) h.jobs }
-holds_step o w (Stop m None) deep h a = record { sound = h.sound; jobs = tt }
+    record { tells = h.tells; sound = h.sound; jobs = jobs_map o w.tree w.tree w.session _ (λ n s j. record { now = j.now; fault = j.now }) h.jobs }
+holds_step o w (Stop m None) deep h a = record { tells = h.tells; sound = h.sound; jobs = tt }
 holds_step o w (Stop m (Some e)) deep h a = by w.session a h.jobs
   where
     by : (s : Option Session) → Allowed o w s (Stop m (Some e)) → JobsHold o w.tree s → Holds o (step o w (Stop m (Some e)))
@@ -275,7 +280,7 @@ holds_step o w (Stop m (Some e)) deep h a = by w.session a h.jobs
     by (Some n) x j =
         let out = job_in (last_running n) x.2.0 (λ k. IsOutcome o w n k e) x.2.1 in
         let mine : InFlight o w.tree out.0 = (last_jobs o w.tree n j).each (x.2.0, out.0) out.1 in
-        record { sound = sound_step o w.batches w.tree out.0 e out.2.fit out.2.holds h.sound mine (for_job n out.0 e out.2.same); jobs = tt }
+        record { tells = h.tells; sound = sound_step o w.batches w.tree out.0 e out.2.formed.fit (out.2.holds h.tells) h.sound mine (for_job n out.0 e out.2.formed.same); jobs = tt }
 
 pub holds_run : (o : Column) (w : Standing) (es : List Event) → 0 < o.last_level → Holds o w → IsLegal o w es → Holds o (run o w es)
 holds_run o w [] deep h l = h

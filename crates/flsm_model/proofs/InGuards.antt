@@ -13,8 +13,8 @@ use Rattle.peb_base.specs.declared.table_row.TableRow.{TableRow}
 use Rattle.peb_base.specs.Profiles.{Column}
 use Rattle.flsm_model.specs.declared.edit.Edit.{Edit}
 use Rattle.flsm_model.specs.declared.edit.Edit.TheVariants.{Open, Flush, Move, Cut, Merge}
-use Rattle.flsm_model.specs.Shape.{Record, Shape, shape_from, grown, exchanged, guards_at, rows_without, rows_numbered, has_number, outputs_of}
-use Rattle.flsm_model.specs.Fits.{fits, fit_from, lies_in, first_smallest, input_range, lie_apart, is_new, rows_are_new, is_straddled}
+use Rattle.flsm_model.specs.Shape.{Shape, grown, exchanged, guards_at, rows_without, rows_numbered, has_number, outputs_of}
+use Rattle.flsm_model.specs.Fits.{fits, lies_in, first_smallest, input_range, lie_apart, is_new, rows_are_new, is_straddled}
 use Rattle.flsm_model.proofs.Facts.{CutFits, move_facts, flush_facts, cut_facts, merge_facts}
 use Rattle.flsm_model.proofs.Guards.{AscendFrom, same_range, ranges_kept, ascend_keys}
 use Rattle.flsm_model.proofs.Lists.{Each, each-filter, each-append, each_pass, each_both, each_weaker}

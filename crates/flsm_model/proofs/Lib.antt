@@ -42,3 +42,15 @@ pub mod Counting
 pub mod Copied
 pub mod Testing
 pub mod Shaped
+pub mod ShapeLaw
+pub mod NestLaw
+pub mod BoundLaw
+pub mod Suits
+pub mod Settling
+pub mod LastLevel
+pub mod Conserved
+pub mod Refused
+pub mod ExamplePicks
+pub mod Picks
+pub mod Lawful
+pub mod Tables

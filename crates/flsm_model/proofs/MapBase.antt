@@ -8,7 +8,7 @@ use Rattle.peb_base.specs.declared.entry.Entry.{Entry}
 use Rattle.flsm_model.specs.Shape.{Record}
 use Rattle.flsm_model.specs.Fits.{fits, fit_from}
 use Rattle.flsm_model.specs.Trees.{Tree, rows_of, installed, tree_from, tree_of, empty_tree}
-use Rattle.flsm_model.specs.TrueRecord.{DescribedFrom, IsNewest, Live, Flushed, IsTrue}
+use Rattle.flsm_model.specs.TrueRecord.{DescribedFrom, IsNewest, Live, Flushed, IsTrueRecord}
 use Rattle.peb_base.specs.Members.{IsIn}
 use Rattle.flsm_model.specs.Events.{Event, Standing, base}
 use Rattle.flsm_model.specs.Jobs.{floor_of}
@@ -57,7 +57,7 @@ from_to P to m x low l n = record { here = n.here; below = omega (arith, n.below
 to_from : (P : Entry → Type 0) (to m : ℕ) (x : Entry) → ((y : Entry) → P y → y.number ≤ to) → to ≤ m → IsNewest P x m → IsNewest P x to
 to_from P to m x low l n = record { here = n.here; below = low x n.here; newest = λ f p k b. n.newest f p k (omega arith) }
 
-pub shows_base : (o : Column) (bs : Batches) (r : Record) → IsTrue o r bs → Shows o (base o bs r)
+pub shows_base : (o : Column) (bs : Batches) (r : Record) → IsTrueRecord o r bs → Shows o (base true o bs r)
 shows_base o bs r h =
     let e = kept_empty o in
     let k = numbers_from o bs (empty_tree o) r h.legal h.described
@@ -96,11 +96,11 @@ held_above actor m (p ∷ ps) last h = elim (or_cases (actor == p.0 && m == p.1)
 pub map_holds : Always MapHolds
 map_holds p bs r es base_true legal n eq m read x put =
     let o = column p in
-    let w = run o (base o bs r) es in
-    let h = whole_run o (base o bs r) es (deep p) (record { holds = sound_base o r bs base_true; placed = placed_base o bs r base_true; shows = shows_base o bs r base_true }) legal in
+    let w = run o (base true o bs r) es in
+    let h = whole_run o (base true o bs r) es (deep p) (record { holds = sound_base o r bs base_true; placed = placed_base o bs r base_true; shows = shows_base o bs r base_true }) legal in
     let to : ℕ = w.tree.shape.to in
     let floor : floor_of n.held (last_number w.batches) ≤ m =
-    elim read [ inl l ↦ omega (arith, floor_last n.held (last_number w.batches)) | inr a ↦ held_above a.0 m n.held (last_number w.batches) a.1 ] in
+    elim read [ inl l ↦ omega (arith, l, h.shows.to_last, floor_last n.held (last_number w.batches)) | inr a ↦ held_above a.0 m n.held (last_number w.batches) a.1 ] in
     let same : ShowsAt w.tree w.batches m = h.shows.shown m (inr (subst (λ s. Readable (last_number w.batches) s m) (sym eq) floor)) in
     let low_live : (y : Entry) → Live w.tree y → y.number ≤ to = λ y v. h.holds.sound.flushed.flushed v.table y v.among v.inside in
     let low : (y : Entry) → Flushed w.batches to y → y.number ≤ to = λ y v. v.upto in

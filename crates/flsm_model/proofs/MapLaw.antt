@@ -1,5 +1,5 @@
 -- The law of the map over whole histories.
-use Rattle.std.proofs.Common.{◌≡◌, ℕ, ◌+◌, ◌<◌, ◌≤◌, false, not, List, [], ◌∷◌, ◌++◌, length, ◌⊎◌, inl, inr, refl, sym, ap, subst, arith}
+use Rattle.std.proofs.Common.{◌≡◌, ℕ, ◌+◌, ◌<◌, ◌≤◌, false, not, List, [], ◌∷◌, ◌++◌, length, ◌⊎◌, inl, inr, refl, sym, ap, subst, arith, true}
 use Rattle.std.specs.Prelude.{◌==◌, ◌↔◌, Option, Some, None, option_map, unwrap_or, ⊤}
 use Rattle.peb_base.specs.Batches.{Batches, batches_to, last_number}
 use Rattle.peb_base.specs.declared.entry.Entry.{Entry}
@@ -11,9 +11,9 @@ use Rattle.flsm_model.specs.declared.job_kind.JobKind.TheVariants.{Flush as Flus
 use Rattle.flsm_model.specs.declared.job.Job.{Job}
 use Rattle.flsm_model.specs.Shape.{has_number}
 use Rattle.flsm_model.specs.Trees.{Table, Tree, installed, tables_without}
-use Rattle.flsm_model.specs.Events.{Event, Opened, Commit, Synced, Look, Hold, Release, Freeze, Begin, Done, Short, JournalFault, Stop, Session, Standing, Running}
+use Rattle.flsm_model.specs.Events.{Event, Opened, Commit, Synced, Look, Hold, Release, Freeze, Begin, Done, Short, JournalFault, Stop, Session, Standing, Running, last_of}
 use Rattle.flsm_model.specs.Jobs.{floor_of, IsLawful}
-use Rattle.flsm_model.specs.Steps.{flushed, without_job, step, run}
+use Rattle.flsm_model.specs.Steps.{flushed, without_job, running_of, shorts_of, step, run}
 use Rattle.flsm_model.specs.Legal.{last_running, Allowed}
 use Rattle.flsm_model.specs.Outcomes.{IsEditOf, IsOutcome}
 use Rattle.flsm_model.proofs.Members.{IsIn}
@@ -26,6 +26,10 @@ use Rattle.flsm_model.proofs.Covers.{Live, OneByNumber, one_step, newest_same}
 use Rattle.flsm_model.proofs.Maps.{Flushed}
 use Rattle.flsm_model.proofs.Shown.{to_kept, ShowsAt, AtLevels, floor_last, floor_more, floor_released, levels_step, outcome_shows, pushed_same, dropped_same}
 use Rattle.flsm_model.proofs.Lists.{in_filter, in_left, in_kept}
+
+-- where the last flush is of batches that are there, the last number is theirs
+pub last_same : (w : Standing) → w.tree.shape.to ≤ last_number w.batches → last_of w ≡ last_number w.batches
+last_same w h = omega (arith, h)
 
 -- no job's floor is above the floor now
 abbrev pub FloorsBelow : List Running → ℕ → Type 0
@@ -75,11 +79,11 @@ session_only o w f g h = record { one = h.one; levels = h.levels; to_last = h.to
     less m (Some n) e x at = elim at [ inl a ↦ inl a | inr b ↦ inr (rw e (omega (arith, (g n e x).1))) ]
 
 -- an outcome, and the batches as they are
-outcome_step : (o : Column) (w : Standing) (n : Session) (rs : List Running) (actor : ℕ) (j : Job) (e : Edit) → IsOutcome o w n j e → Sound o w.tree → InFlight o w.tree j
+outcome_step : (o : Column) (w : Standing) (n : Session) (rs : List Running) (actor : ℕ) (j : Job) (e : Edit) → w.told ≡ true → IsOutcome o w n j e → Sound o w.tree → InFlight o w.tree j
     → IsIn (actor, j) rs → FloorsBelow rs (floor_of n.held (last_number w.batches)) → w.session ≡ Some n → Shows o w
     → (m : ℕ) → ((installed o w.batches w.tree e).shape.to ≤ m) ⊎ (floor_of n.held (last_number w.batches) ≤ m) → ShowsAt (installed o w.batches w.tree e) w.batches m
-outcome_step o w n rs actor j e out s run i fl eq h =
-    outcome_shows o w.batches w.tree n j e (floor_of n.held (last_number w.batches)) out.same out.fit out.holds s run h.one h.levels (fl (actor, j) i)
+outcome_step o w n rs actor j e tells out s run i fl eq h =
+    outcome_shows o w.batches w.tree n j e (floor_of n.held (last_number w.batches)) out.formed.same out.formed.fit (out.holds tells) s run h.one h.levels (fl (actor, j) i)
     (λ m at. h.shown m (elim at [ inl a ↦ inl a | inr b ↦ inr (rw eq b) ]))
 
 -- the last flush after an outcome is stable
@@ -165,7 +169,7 @@ shows_step o w (Opened session log) hold pl h a = by w.session a
           one = one_step o w.batches w.tree (Open session log) refl (known_tables o w.tree hold.sound) h.one;
           levels = levels_step o w.batches w.tree (Open session log) x.0 h.levels;
           to_last = h.to_last;
-          session = record { stable = h.to_last; stable_last = omega arith; frozen = λ k q. absurd (none_some k q); floors = λ r i. absurd i; faults = tt };
+          session = record { stable = omega arith; stable_last = omega (arith, h.to_last); frozen = λ k q. absurd (none_some k q); floors = λ r i. absurd i; faults = tt };
           shown = λ m at. open_shows o w.batches w.tree session log m (h.shown m (inl (elim at [ inl b ↦ b | inr b ↦ omega (arith, h.to_last) ])));
         }
       where
@@ -206,12 +210,12 @@ shows_step o w (Commit actor first ops) hold pl h a = by w.session refl a pl.wit
           subst (λ s. Readable (last_number bs2) (option_map {T = Session} {U = Session} (λ s. record s { committed = s.committed + length ops }) s) m) eq b,
         ))
 shows_step o w (Synced actor k) hold pl h a =
-    session_only o w _ (λ n e x. (record { stable = omega (arith, x.stable); stable_last = omega (arith, x.stable_last, (within o w (Synced actor k) n e a).1); frozen = λ q r. omega (arith, x.frozen q r); floors = x.floors; faults = x.faults }, omega arith)) h
+    session_only o w _ (λ n e x. (record { stable = omega (arith, x.stable); stable_last = omega (arith, x.stable_last, h.to_last, (within o w (Synced actor k) n e a).1); frozen = λ q r. omega (arith, x.frozen q r); floors = x.floors; faults = x.faults }, omega arith)) h
 shows_step o w (Look actor k) hold pl h a = h
 shows_step o w (Hold actor k) hold pl h a =
     session_only o w _ (λ n e x.
     let same : floor_of ((actor, k) ∷ n.held) (last_number w.batches) ≡ floor_of n.held (last_number w.batches) =
-    omega (arith, (within o w (Hold actor k) n e a).0, floor_last n.held (last_number w.batches)) in
+    omega (arith, h.to_last, (within o w (Hold actor k) n e a).0, floor_last n.held (last_number w.batches)) in
     (record { stable = x.stable; stable_last = x.stable_last; frozen = x.frozen; floors = λ r i. omega (arith, same, x.floors r i); faults = subst (FaultFloors n.faulted) (sym same) x.faults }, omega (arith, same))) h
 shows_step o w (Release actor k) hold pl h a =
     session_only o w _ (λ n e x.
@@ -220,7 +224,7 @@ shows_step o w (Release actor k) hold pl h a =
 shows_step o w (Freeze k) hold pl h a =
     session_only o w _ (λ n e x.
     let y = within o w (Freeze k) n e a in
-    (record { stable = omega (arith, x.stable); stable_last = omega (arith, x.stable_last, y.3); frozen = λ q r. omega (arith, some_same k q r); floors = x.floors; faults = x.faults }, omega arith)) h
+    (record { stable = omega (arith, x.stable); stable_last = omega (arith, x.stable_last, h.to_last, y.3); frozen = λ q r. omega (arith, some_same k q r); floors = x.floors; faults = x.faults }, omega arith)) h
   where
     some_same : (k q : ℕ) → Some k ≡ Some q → k ≡ q
     some_same k q r = cc
@@ -232,7 +236,7 @@ shows_step o w (Begin actor job) hold pl h a =
         stable = x.stable;
         stable_last = x.stable_last;
         frozen = x.frozen;
-        floors = λ r i. elim i [ inl q ↦ omega (arith, ap (λ (z : Running). z.1.floor) q, l.floor) | inr m ↦ x.floors r m ];
+        floors = λ r i. elim i [ inl q ↦ omega (arith, ap (λ (z : Running). z.1.floor) q, l.floor, ap (floor_of n.held) (last_same w h.to_last)) | inr m ↦ x.floors r m ];
         faults = x.faults;
       },
       omega arith,
@@ -244,10 +248,10 @@ shows_step o w (Done actor e) hold pl h a = by w.session refl a hold.jobs h.sess
     by (Some n) eq x j y =
         let out = job_in n.running actor (λ k. IsOutcome o w n k e) x.1 in
         let mine : InFlight o w.tree out.0 = j.now.each (actor, out.0) out.1 in
-        let to2 : (installed o w.batches w.tree e).shape.to ≤ n.stable = to_after o w n out.0 e out.2.same y in
+        let to2 : (installed o w.batches w.tree e).shape.to ≤ n.stable = to_after o w n out.0 e out.2.formed.same y in
         record {
-          one = one_step o w.batches w.tree e (fresh_rows o w.tree.shape e out.2.fit) (known_tables o w.tree hold.sound) h.one;
-          levels = levels_step o w.batches w.tree e out.2.fit h.levels;
+          one = one_step o w.batches w.tree e (fresh_rows o w.tree.shape e out.2.formed.fit) (known_tables o w.tree hold.sound) h.one;
+          levels = levels_step o w.batches w.tree e out.2.formed.fit h.levels;
           to_last = omega (arith, to2, y.stable_last);
           session = rw eq (record {
             stable = to2;
@@ -256,11 +260,11 @@ shows_step o w (Done actor e) hold pl h a = by w.session refl a hold.jobs h.sess
             floors = λ r i. y.floors r (in_filter (λ z. not (z.0 == actor)) r n.running i).0;
             faults = y.faults;
           });
-          shown = λ m at. outcome_step o w n n.running actor out.0 e out.2 hold.sound mine out.1 y.floors eq h m
-              (elim at [ inl b ↦ inl b | inr b ↦ inr (subst (λ s. Readable (last_number w.batches) (option_map {T = Session} {U = Session} (λ q. record q { running = without_job q.running actor; frozen = flushed e q.frozen }) s) m) eq b) ]);
+          shown = λ m at. outcome_step o w n n.running actor out.0 e hold.tells out.2 hold.sound mine out.1 y.floors eq h m
+              (elim at [ inl b ↦ inl b | inr b ↦ inr (subst (λ s. Readable (last_number w.batches) (option_map {T = Session} {U = Session} (λ q. record q { running = without_job q.running actor; frozen = flushed e q.frozen; edits_made = q.edits_made ++ e ∷ [] }) s) m) eq b) ]);
         }
 shows_step o w (Short actor cause bytes) hold pl h a =
-    let h2 = session_only o w (λ s. record s { running = without_job s.running actor })
+    let h2 = session_only o w (λ s. record s { running = without_job s.running actor; jobs_cut_short = s.jobs_cut_short ++ shorts_of bytes (running_of actor s) })
     (λ n e x. (record { stable = x.stable; stable_last = x.stable_last; frozen = x.frozen; floors = λ r i. x.floors r (in_filter (λ z. not (z.0 == actor)) r n.running i).0; faults = x.faults }, omega arith)) h in
     record { one = h2.one; levels = h2.levels; to_last = h2.to_last; session = h2.session; shown = h2.shown }
 shows_step o w JournalFault hold pl h a =
@@ -285,13 +289,13 @@ shows_step o w (Stop k (Some e)) hold pl h a = by w.session refl a hold.jobs h.s
     by (Some n) eq x j y =
         let out = job_in (last_running n) x.2.0 (λ q. IsOutcome o w n q e) x.2.1 in
         let mine : InFlight o w.tree out.0 = (last_jobs o w.tree n j).each (x.2.0, out.0) out.1 in
-        let to2 : (installed o w.batches w.tree e).shape.to ≤ n.stable = to_after o w n out.0 e out.2.same y in
+        let to2 : (installed o w.batches w.tree e).shape.to ≤ n.stable = to_after o w n out.0 e out.2.formed.same y in
         let low : (installed o w.batches w.tree e).shape.to ≤ k = omega (arith, to2, x.1) in
         record {
-          one = one_step o w.batches w.tree e (fresh_rows o w.tree.shape e out.2.fit) (known_tables o w.tree hold.sound) h.one;
-          levels = levels_step o w.batches w.tree e out.2.fit h.levels;
+          one = one_step o w.batches w.tree e (fresh_rows o w.tree.shape e out.2.formed.fit) (known_tables o w.tree hold.sound) h.one;
+          levels = levels_step o w.batches w.tree e out.2.formed.fit h.levels;
           to_last = to_kept w.batches k (installed o w.batches w.tree e).shape.to pl.ordered x.0 low;
           session = tt;
           shown = λ m at. same_batches (installed o w.batches w.tree e) w.batches (batches_to k w.batches) m (dropped_same w.batches k (installed o w.batches w.tree e).shape.to pl.ordered x.0 low)
-              (outcome_step o w n (last_running n) x.2.0 out.0 e out.2 hold.sound mine out.1 (last_floors n.faulted n.running _ y.floors y.faults) eq h m (inl (elim at [ inl b ↦ b | inr b ↦ absurd b ])));
+              (outcome_step o w n (last_running n) x.2.0 out.0 e hold.tells out.2 hold.sound mine out.1 (last_floors n.faulted n.running _ y.floors y.faults) eq h m (inl (elim at [ inl b ↦ b | inr b ↦ absurd b ])));
         }

@@ -30,7 +30,8 @@ use Rattle.flsm_model.proofs.Base.{deep}
 use Rattle.flsm_model.proofs.MapBase.{map_holds}
 use Rattle.flsm_model.proofs.Truth.{All, all_run, all_base}
 use Rattle.flsm_model.proofs.Lists.{in_filter, in_append, in_flat, in_left, in_right, in_kept}
-use Rattle.flsm_model.proofs.MapLists.{put_value, no_value, maps_same, apply_sorted, latest, lookup_applied}
+use Rattle.flsm_model.proofs.MapLists.{no_value, maps_same, apply_sorted, latest, lookup_applied}
+use Rattle.flsm_model.specs.Contents.{put_value}
 use Rattle.flsm_model.proofs.Newest.{first_at, firsts_first, KeysRise, KeysRise, firsts_rise, rise_sorted, lookup_puts, Found, Rising, Rising, found_last, falling_in_order, found_first, rising_entries, rising_filter, same_number, Nowhere, At}
 
 -- ---- the join
@@ -101,8 +102,8 @@ joined bs es m ordered sub same = maps_same (shown es m) (map_at bs m) (rise_sor
 
 -- ---- live entries are entries of the batches
 
-record Sourced (bs : Batches) (t : Tree) : Type 0 where
-  source : (u : Table) (x : Entry) → IsIn u t.tables → IsIn x u.entries → IsIn x (entries_of bs)
+pub record Sourced (bs : Batches) (t : Tree) : Type 0 where
+  pub source : (u : Table) (x : Entry) → IsIn u t.tables → IsIn x u.entries → IsIn x (entries_of bs)
 
 sourced_step : (o : Column) (bs : Batches) (t : Tree) (e : Edit) → Sourced bs t → Sourced bs (installed o bs t e)
 sourced_step o bs t (Open session log) h = record { source = λ u x i p. elim (after o bs t (Open session log) u i) [ inl a ↦ h.source u x a.0 p | inr b ↦ absurd b ] }
@@ -135,7 +136,7 @@ sourced_step o bs t (Merge floor whole inputs outputs) h = record {
   ];
 }
 
-sourced_from : (o : Column) (bs : Batches) (t : Tree) (r : Record) → Sourced bs t → Sourced bs (tree_from o bs t r)
+pub sourced_from : (o : Column) (bs : Batches) (t : Tree) (r : Record) → Sourced bs t → Sourced bs (tree_from o bs t r)
 sourced_from o bs t [] h = h
 sourced_from o bs t (e ∷ es) h = sourced_from o bs (installed o bs t e) es (sourced_step o bs t e h)
 
@@ -151,10 +152,10 @@ map_shows p bs r es base_true legal = record { flushed = at_flush; read = at_rea
     o = column p
 
     w : Standing
-    w = run o (base o bs r) es
+    w = run o (base true o bs r) es
 
     all : All o w
-    all = all_run o (base o bs r) es (deep p) (all_base o bs r base_true) legal
+    all = all_run o (base true o bs r) es (deep p) (all_base o bs r base_true) legal
 
     to : ℕ
     to = w.tree.shape.to
@@ -200,7 +201,7 @@ map_shows p bs r es base_true legal = record { flushed = at_flush; read = at_rea
       ],
     )
 
-    at_read : (n : Session) → w.session ≡ Some n → (m : ℕ) → IsRead w.batches n m → shown (all_entries w.tree.tables ++ in_memory w.batches to) m ≡ map_at w.batches m
+    at_read : (n : Session) → w.session ≡ Some n → (m : ℕ) → IsRead w n m → shown (all_entries w.tree.tables ++ in_memory w.batches to) m ≡ map_at w.batches m
     at_read n eq m rd =
         let es2 : List Entry = all_entries w.tree.tables ++ in_memory w.batches to in
         joined w.batches es2 m all.placed.ordered

@@ -14,12 +14,9 @@ use Rattle.peb_base.specs.declared.entry.Entry.{Entry}
 use Rattle.peb_base.specs.Members.{IsIn}
 use Rattle.flsm_model.proofs.NewRows.{le_ne_lt}
 use Rattle.flsm_model.proofs.Lists.{in_filter}
+use Rattle.flsm_model.specs.Contents.{put_value}
 
 -- the value of a put
-abbrev pub put_value : Change → Option Bytes
-put_value (Put v) = Some v
-put_value Delete = None
-
 pub no_value : (c : Change) → is_put c ≡ false → put_value c ≡ None
 no_value (Put v) h = absurd (true≢false h)
 no_value Delete h = refl

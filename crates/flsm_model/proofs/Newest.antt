@@ -19,7 +19,8 @@ use Rattle.flsm_model.proofs.Sorts.{Sorted, sorted_in_order}
 use Rattle.flsm_model.proofs.Shown.{in_numbered, above_low}
 use Rattle.flsm_model.proofs.NewRows.{le_ne_lt}
 use Rattle.flsm_model.proofs.Lists.{in_filter, in_append, in_flat}
-use Rattle.flsm_model.proofs.MapLists.{put_value, lt_self, MapSorted, MapSorted, lookup_below, latest}
+use Rattle.flsm_model.proofs.MapLists.{lt_self, MapSorted, MapSorted, lookup_below, latest}
+use Rattle.flsm_model.specs.Contents.{put_value}
 
 -- ---- the first entry of each key
 

@@ -17,7 +17,7 @@ use Rattle.flsm_model.specs.Events.{Event, Opened, Commit, Synced, Look, Hold, R
 use Rattle.flsm_model.specs.Outcomes.{IsOutcome, IsEditOf}
 use Rattle.flsm_model.specs.Legal.{Allowed, IsLegal, last_running, Always}
 use Rattle.flsm_model.specs.Steps.{step, run}
-use Rattle.flsm_model.specs.TrueRecord.{IsTrue}
+use Rattle.flsm_model.specs.TrueRecord.{IsTrueRecord}
 use Rattle.flsm_model.specs.Placing.{OnePlace}
 use Rattle.flsm_model.specs.Bounds.{RecordBound}
 use Rattle.flsm_model.proofs.Bound.{unflushed, place_step, place_from, bound_from}
@@ -47,7 +47,7 @@ ordered_push low (x ∷ bs) first ops h a b c d =
     let p = and_parts _ _ h in
     and_from _ _ p.0 (ordered_push (x.0 + length x.1 - 1) bs first ops p.1 (omega arith) (omega arith) c d)
 
-last_push : (bs : Batches) (first : ℕ) (ops : List Op) (m : ℕ) → last_number bs ≤ m → first + length ops - 1 ≤ m → last_number (bs ++ (first, ops) ∷ []) ≤ m
+pub last_push : (bs : Batches) (first : ℕ) (ops : List Op) (m : ℕ) → last_number bs ≤ m → first + length ops - 1 ≤ m → last_number (bs ++ (first, ops) ∷ []) ≤ m
 last_push [] first ops m h a = omega arith
 last_push (x ∷ bs) first ops m h a = omega (arith, last_push bs first ops m (omega arith) a)
 
@@ -74,7 +74,7 @@ ordered_some low n (x ∷ bs) h =
     by true p l h = and_from _ _ p h
     by false p l h = ordered_lower low (x.0 + length x.1 - 1) (batches_to n bs) l h
 
-last_some : (n : ℕ) (bs : Batches) → last_number (batches_to n bs) ≤ last_number bs
+pub last_some : (n : ℕ) (bs : Batches) → last_number (batches_to n bs) ≤ last_number bs
 last_some n [] = omega arith
 last_some n (x ∷ bs) = by (nat_le (x.0 + length x.1 - 1) n) (last_some n bs)
   where
@@ -99,7 +99,7 @@ same_session s (Move level floor inputs outputs) h = refl
 same_session s (Cut level keys inputs outputs) h = refl
 same_session s (Merge floor whole inputs outputs) h = refl
 
-within_map : (last session : ℕ) (s : Option Session) (f : Session → Session) → ((n : Session) → (f n).committed ≡ n.committed) → Within last session s → Within last session (option_map f s)
+pub within_map : (last session : ℕ) (s : Option Session) (f : Session → Session) → ((n : Session) → (f n).committed ≡ n.committed) → Within last session s → Within last session (option_map f s)
 within_map last session None f g h = h
 within_map last session (Some n) f g h = rw (g n) h
 
@@ -112,7 +112,7 @@ once_more : (o : Column) (bs : Batches) (t : Tree) (e : Edit) → are_in_order b
 once_more o bs t e b f h q = omega (arith, place_step o bs t e q b f, h q)
 
 pub not_open : (o : Column) (w : Standing) (n : Session) (j : Job) (e : Edit) → IsOutcome o w n j e → (a b : ℕ) → e ≢ Open a b
-not_open o w n j e out a b s = never_open n j a b (subst (λ z. IsEditOf j.kind n j z) s out.same)
+not_open o w n j e out a b s = never_open n j a b (subst (λ z. IsEditOf j.kind n j z) s out.formed.same)
 
 pub placed_step : (o : Column) (w : Standing) (e : Event) → Placed o w → Allowed o w w.session e → Placed o (step o w e)
 placed_step o w (Opened session log) h a = by w.session a h.within
@@ -151,7 +151,7 @@ placed_step o w (Done actor e) h a = by w.session refl a h.within
         record {
           ordered = h.ordered;
           within = rw (eq, same) y;
-          once = once_more o w.batches w.tree e h.ordered out.2.fit h.once;
+          once = once_more o w.batches w.tree e h.ordered out.2.formed.fit h.once;
         }
 placed_step o w (Short actor cause bytes) h a = record { ordered = h.ordered; within = within_map _ _ w.session _ (λ n. refl) h.within; once = h.once }
 placed_step o w JournalFault h a = same_placed o w _ (λ n. refl) h
@@ -171,7 +171,7 @@ placed_step o w (Stop m (Some e)) h a = by w.session a h.within
         record {
           ordered = ordered_some 0 m w.batches h.ordered;
           within = rw same (omega (arith, last_some m w.batches, y.0, y.1));
-          once = once_more o w.batches w.tree e h.ordered out.2.fit h.once;
+          once = once_more o w.batches w.tree e h.ordered out.2.formed.fit h.once;
         }
 
 pub placed_run : (o : Column) (w : Standing) (es : List Event) → Placed o w → IsLegal o w es → Placed o (run o w es)
@@ -182,7 +182,7 @@ pub shape_same : (o : Column) (bs : Batches) (t : Tree) (r : Record) → (tree_f
 shape_same o bs t [] = refl
 shape_same o bs t (e ∷ es) = shape_same o bs (installed o bs t e) es
 
-pub placed_base : (o : Column) (bs : Batches) (r : Record) → IsTrue o r bs → Placed o (base o bs r)
+pub placed_base : (o : Column) (bs : Batches) (r : Record) → IsTrueRecord o r bs → Placed o (base true o bs r)
 placed_base o bs r h =
     record {
       ordered = h.ordered;
@@ -192,4 +192,4 @@ placed_base o bs r h =
 
 pub one_place : Always OnePlace
 one_place p bs r h base_true legal q =
-    omega (arith, (placed_run (column p) (base (column p) bs r) h (placed_base (column p) bs r base_true) legal).once q)
+    omega (arith, (placed_run (column p) (base true (column p) bs r) h (placed_base (column p) bs r base_true) legal).once q)

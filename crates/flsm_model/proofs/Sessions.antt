@@ -1,5 +1,5 @@
 -- Numbers within a session: of tables, of logs and of what is frozen.
-use Rattle.std.proofs.Common.{◌≡◌, ℕ, ◌+◌, ◌-◌, ◌*◌, ◌^◌, ◌<◌, ◌≤◌, ◌≢◌, Bool, true, false, cond, ◌&&◌, ◌||◌, List, [], ◌∷◌, ◌++◌, map, ◌⊎◌, inl, inr, refl, sym, ◌∙◌, ap, subst, arith}
+use Rattle.std.proofs.Common.{◌≡◌, ℕ, max, length, ◌+◌, ◌-◌, ◌*◌, ◌^◌, ◌<◌, ◌≤◌, ◌≢◌, Bool, true, false, cond, ◌&&◌, ◌||◌, List, [], ◌∷◌, ◌++◌, map, ◌⊎◌, inl, inr, refl, sym, ◌∙◌, ap, subst, arith}
 use Rattle.std.specs.Prelude.{nat_lt, nat_le, ◌==◌, filter, Option, Some, None, option_map, ⊤}
 use Rattle.std.specs.List.{list_all}
 use Rattle.std.proofs.lemmas.Bool.{and_parts, or_cases, eqb-true, ltb-true, leb-true, false≢true}
@@ -12,16 +12,15 @@ use Rattle.flsm_model.specs.declared.job_kind.JobKind.{JobKind}
 use Rattle.flsm_model.specs.declared.job_kind.JobKind.TheVariants.{Flush as FlushJob, Move as MoveJob, Cut as CutJob, Merge as MergeJob}
 use Rattle.flsm_model.specs.declared.job.Job.{Job}
 use Rattle.flsm_model.specs.Shape.{Shape, grown, has_number, outputs_of}
-use Rattle.flsm_model.specs.Events.{Event, Opened, Commit, Synced, Look, Hold, Release, Freeze, Begin, Done, Short, JournalFault, Stop, Session, Standing, Running}
+use Rattle.flsm_model.specs.Events.{Event, Opened, Commit, Synced, Look, Hold, Release, Freeze, Begin, Done, Short, JournalFault, Stop, Session, Standing, Running, last_of}
 use Rattle.flsm_model.specs.Steps.{flushed, without_job, step}
 use Rattle.flsm_model.specs.Jobs.{numbers_needed, IsLawful}
 use Rattle.flsm_model.specs.Outcomes.{IsEditOf, IsOutcome}
-use Rattle.flsm_model.specs.Legal.{Allowed}
+use Rattle.flsm_model.specs.Legal.{Allowed, last_running}
 use Rattle.peb_base.specs.Members.{IsIn}
-use Rattle.flsm_model.proofs.Places.{same_session, not_open}
+use Rattle.flsm_model.proofs.Places.{Within, within_map, same_session, not_open, last_push, last_some}
 use Rattle.flsm_model.proofs.Histories.{job_in, within}
 use Rattle.flsm_model.proofs.MapLaw.{last_grows}
-use Rattle.flsm_model.proofs.Truth.{All}
 
 -- ---- blocks of table numbers: each begins where the one before it ends
 
@@ -145,30 +144,51 @@ block_of j rows m h i =
 
 -- ---- a whole session
 
+-- the first number that no job of the session has reserved
 abbrev pub top_of : ℕ → Session → ℕ
 top_of session n = session * 2 ^ 40 + 1 + n.reserved
 
+-- the marks of a session: its first log, how many operations and freezes, where the memtable begins, what is stable and what is frozen
+pub record Marks : Type 0 where
+  pub log : ℕ
+  pub committed : ℕ
+  pub freezes : ℕ
+  pub mem_from : ℕ
+  pub stable : ℕ
+  pub frozen : Option ℕ
+
+abbrev pub marks_of : Session → Marks
+marks_of n = record { log = n.log; committed = n.committed; freezes = n.freezes; mem_from = n.mem_from; stable = n.stable; frozen = n.frozen }
+
 -- what is frozen is above the last flush, and its log is above the last flush's
-pub record IsFrozen (s : Shape) (n : Session) (k : ℕ) : Type 0 where
+pub record IsFrozen (s : Shape) (n : Marks) (k : ℕ) : Type 0 where
   pub at : k ≡ n.mem_from
   pub above : s.to < k
   pub log : s.log < n.log + n.freezes
   pub some : 1 ≤ n.freezes
+  pub kept : k ≤ n.stable
 
+-- the marks are in order
+pub record InMarks (s : Shape) (last : ℕ) (n : Marks) : Type 0 where
+  pub log_least : 1 ≤ n.log
+  pub log_room : n.log ≤ (s.session - 1) * 2 ^ 41 + 1
+  pub logs : s.log ≤ n.log + n.freezes
+  pub mem : s.to ≤ n.mem_from
+  pub mem_last : n.mem_from ≤ last
+  pub stable : s.to ≤ n.stable
+  pub stable_last : n.stable ≤ last
+  pub few : n.freezes ≤ n.committed + 1
+  pub fewer : n.mem_from < last → n.freezes ≤ n.committed
+  pub frozen : (k : ℕ) → n.frozen ≡ Some k → IsFrozen s n k
+
+-- the table numbers of a session: those in use lie below the next one, and each job has a block of its own
 pub record InNumbers (s : Shape) (last : ℕ) (n : Session) : Type 0 where
   pub positive : 1 ≤ s.session
   pub used : (m : ℕ) → has_number m s.used ≡ true → m < top_of s.session n
   pub room : n.reserved < 2 ^ 40
   pub blocks : Blocks (top_of s.session n) n.running
   pub faults : FaultBlocks (top_of s.session n) n.faulted
-  pub log_least : 1 ≤ n.log
-  pub log_room : n.log ≤ (s.session - 1) * 2 ^ 41 + 1
-  pub logs : s.log ≤ n.log + n.freezes
-  pub mem : s.to ≤ n.mem_from
-  pub mem_last : n.mem_from ≤ last
-  pub few : n.freezes ≤ n.committed + 1
-  pub fewer : n.mem_from < last → n.freezes ≤ n.committed
-  pub frozen : (k : ℕ) → n.frozen ≡ Some k → IsFrozen s n k
+  pub marks : InMarks s last (marks_of n)
 
 abbrev pub NumbersHold : Shape → ℕ → Option Session → Type 0
 NumbersHold s last None = ⊤
@@ -184,10 +204,16 @@ faults_up a b None l h = tt
 faults_up a b (Some rs) l h = blocks_up a b rs l h
 
 abbrev pub Numbers : Standing → Type 0
-Numbers w = NumbersHold w.tree.shape (last_number w.batches) w.session
+Numbers w = NumbersHold w.tree.shape (last_of w) w.session
 
-pub numbers_step : (o : Column) (w : Standing) (e : Event) → All o w → Numbers w → Allowed o w w.session e → Numbers (step o w e)
-numbers_step o w (Opened session log) al h a = by w.session a
+-- a turn of which the numbers see nothing
+same_numbers : (w : Standing) (f : Session → Session)
+    → ((n : Session) → InNumbers w.tree.shape (last_of w) n → InNumbers w.tree.shape (last_of w) (f n))
+    → Numbers w → NumbersHold w.tree.shape (last_of w) (option_map f w.session)
+same_numbers w f g h = numbers_map _ _ _ _ w.session f (λ n e x. g n x) h
+
+pub numbers_step : (o : Column) (w : Standing) (e : Event) → Numbers w → Allowed o w w.session e → Numbers (step o w e)
+numbers_step o w (Opened session log) h a = by w.session a
   where
     by : (s : Option Session) → Allowed o w s (Opened session log) → Numbers (step o w (Opened session log))
     by (Some n) x = absurd x
@@ -201,108 +227,99 @@ numbers_step o w (Opened session log) al h a = by w.session a
           room = omega arith;
           blocks = tt;
           faults = tt;
-          log_least = leb-true 1 log p2.1;
-          log_room = leb-true log ((session - 1) * 2 ^ 41 + 1) p3.1;
-          logs = omega (arith, leb-true w.tree.shape.log log p1.1);
-          mem = omega arith;
-          mem_last = al.shows.to_last;
-          few = omega arith;
-          fewer = λ l. omega arith;
-          frozen = λ k q. absurd (none_some k q);
+          marks = record {
+            log_least = leb-true 1 log p2.1;
+            log_room = leb-true log ((session - 1) * 2 ^ 41 + 1) p3.1;
+            logs = omega (arith, leb-true w.tree.shape.log log p1.1);
+            mem = omega arith;
+            mem_last = omega arith;
+            stable = omega arith;
+            stable_last = omega arith;
+            few = omega arith;
+            fewer = λ l. omega arith;
+            frozen = λ k q. absurd (none_some k q);
+          };
         }
       where
         none_some : (k : ℕ) → None ≡ Some k → ⊥
         none_some k q = cc
-numbers_step o w (Commit actor first ops) al h a =
-    let grows : last_number w.batches ≤ last_number (w.batches ++ (first, ops) ∷ []) = last_grows w.batches ((first, ops) ∷ []) in
-    numbers_map w.tree.shape (last_number w.batches) w.tree.shape (last_number (w.batches ++ (first, ops) ∷ [])) w.session _ (λ n e x.
+numbers_step o w (Commit actor first ops) h a =
+    let grows : last_of w ≤ last_of (step o w (Commit actor first ops)) = omega (arith, last_grows w.batches ((first, ops) ∷ [])) in
+    numbers_map w.tree.shape (last_of w) w.tree.shape (last_of (step o w (Commit actor first ops))) w.session _ (λ n e x.
     let y = within o w (Commit actor first ops) n e a in
+    let m = x.marks in
     record {
       positive = x.positive;
       used = x.used;
       room = x.room;
       blocks = x.blocks;
       faults = x.faults;
-      log_least = x.log_least;
-      log_room = x.log_room;
-      logs = x.logs;
-      mem = x.mem;
-      mem_last = omega (arith, x.mem_last, grows);
-      few = omega (arith, x.few);
-      fewer = λ l. omega (arith, x.few, y.1);
-      frozen = λ k q. let z = x.frozen k q in record { at = z.at; above = z.above; log = z.log; some = z.some };
+      marks = record {
+        log_least = m.log_least;
+        log_room = m.log_room;
+        logs = m.logs;
+        mem = m.mem;
+        mem_last = omega (arith, m.mem_last, grows);
+        stable = m.stable;
+        stable_last = omega (arith, m.stable_last, grows);
+        few = omega (arith, m.few);
+        fewer = λ l. omega (arith, m.few, y.1);
+        frozen = λ k q. let z = m.frozen k q in record { at = z.at; above = z.above; log = z.log; some = z.some; kept = z.kept };
+      };
     }) h
-numbers_step o w (Synced actor m) al h a =
-    numbers_map _ _ _ _ w.session _ (λ n e x. record {
+numbers_step o w (Synced actor k) h a =
+    numbers_map _ _ _ _ w.session _ (λ n e x.
+    let y = within o w (Synced actor k) n e a in
+    let m = x.marks in
+    record {
       positive = x.positive;
       used = x.used;
       room = x.room;
       blocks = x.blocks;
       faults = x.faults;
-      log_least = x.log_least;
-      log_room = x.log_room;
-      logs = x.logs;
-      mem = x.mem;
-      mem_last = x.mem_last;
-      few = x.few;
-      fewer = x.fewer;
-      frozen = λ k q. let z = x.frozen k q in record { at = z.at; above = z.above; log = z.log; some = z.some };
+      marks = record {
+        log_least = m.log_least;
+        log_room = m.log_room;
+        logs = m.logs;
+        mem = m.mem;
+        mem_last = m.mem_last;
+        stable = omega (arith, m.stable);
+        stable_last = omega (arith, m.stable_last, y.1);
+        few = m.few;
+        fewer = m.fewer;
+        frozen = λ k q. let z = m.frozen k q in record { at = z.at; above = z.above; log = z.log; some = z.some; kept = omega (arith, z.kept) };
+      };
     }) h
-numbers_step o w (Look actor m) al h a = h
-numbers_step o w (Hold actor m) al h a =
-    numbers_map _ _ _ _ w.session _ (λ n e x. record {
-      positive = x.positive;
-      used = x.used;
-      room = x.room;
-      blocks = x.blocks;
-      faults = x.faults;
-      log_least = x.log_least;
-      log_room = x.log_room;
-      logs = x.logs;
-      mem = x.mem;
-      mem_last = x.mem_last;
-      few = x.few;
-      fewer = x.fewer;
-      frozen = λ k q. let z = x.frozen k q in record { at = z.at; above = z.above; log = z.log; some = z.some };
-    }) h
-numbers_step o w (Release actor m) al h a =
-    numbers_map _ _ _ _ w.session _ (λ n e x. record {
-      positive = x.positive;
-      used = x.used;
-      room = x.room;
-      blocks = x.blocks;
-      faults = x.faults;
-      log_least = x.log_least;
-      log_room = x.log_room;
-      logs = x.logs;
-      mem = x.mem;
-      mem_last = x.mem_last;
-      few = x.few;
-      fewer = x.fewer;
-      frozen = λ k q. let z = x.frozen k q in record { at = z.at; above = z.above; log = z.log; some = z.some };
-    }) h
-numbers_step o w (Freeze m) al h a =
+numbers_step o w (Look actor m) h a = h
+numbers_step o w (Hold actor m) h a = same_numbers w _ (λ n x. record { positive = x.positive; used = x.used; room = x.room; blocks = x.blocks; faults = x.faults; marks = x.marks }) h
+numbers_step o w (Release actor m) h a = same_numbers w _ (λ n x. record { positive = x.positive; used = x.used; room = x.room; blocks = x.blocks; faults = x.faults; marks = x.marks }) h
+numbers_step o w (Freeze m) h a =
     numbers_map _ _ _ _ w.session _ (λ n e x.
     let y = within o w (Freeze m) n e a in
+    let z = x.marks in
     record {
       positive = x.positive;
       used = x.used;
       room = x.room;
       blocks = x.blocks;
       faults = x.faults;
-      log_least = x.log_least;
-      log_room = x.log_room;
-      logs = omega (arith, x.logs);
-      mem = omega (arith, x.mem, y.2, y.3);
-      mem_last = omega (arith, y.3);
-      few = omega (arith, x.fewer y.2);
-      fewer = λ l. absurd (omega (arith, y.3));
-      frozen = λ k q. record { at = sym (some_same m k q); above = omega (arith, some_same m k q, x.mem, y.2, y.3); log = omega (arith, x.logs); some = omega arith };
+      marks = record {
+        log_least = z.log_least;
+        log_room = z.log_room;
+        logs = omega (arith, z.logs);
+        mem = omega (arith, z.mem, y.2, y.3);
+        mem_last = omega (arith, y.3);
+        stable = omega (arith, z.stable);
+        stable_last = omega (arith, z.stable_last, y.3);
+        few = omega (arith, z.fewer y.2);
+        fewer = λ l. absurd (omega (arith, y.3));
+        frozen = λ k q. record { at = sym (some_same m k q); above = omega (arith, some_same m k q, z.mem, y.2, y.3); log = omega (arith, z.logs); some = omega arith; kept = omega (arith, some_same m k q) };
+      };
     }) h
   where
     some_same : (k q : ℕ) → Some k ≡ Some q → k ≡ q
     some_same k q r = cc
-numbers_step o w (Begin actor job) al h a =
+numbers_step o w (Begin actor job) h a =
     numbers_map _ _ _ _ w.session _ (λ n e x.
     let y = within o w (Begin actor job) n e a in
     let l : IsLawful o w n job = y.2 in
@@ -312,96 +329,118 @@ numbers_step o w (Begin actor job) al h a =
       room = l.room;
       blocks = (omega (arith, l.numbers), blocks_up (top_of w.tree.shape.session n) job.numbers n.running (omega (arith, l.numbers)) x.blocks);
       faults = faults_up _ _ n.faulted (omega arith) x.faults;
-      log_least = x.log_least;
-      log_room = x.log_room;
-      logs = x.logs;
-      mem = x.mem;
-      mem_last = x.mem_last;
-      few = x.few;
-      fewer = x.fewer;
-      frozen = λ k q. let z = x.frozen k q in record { at = z.at; above = z.above; log = z.log; some = z.some };
+      marks = x.marks;
     }) h
-numbers_step o w (Done actor e) al h a =
-    numbers_map w.tree.shape (last_number w.batches) (grown w.tree.shape e) (last_number w.batches) w.session _ (λ n q x.
+numbers_step o w (Done actor e) h a =
+    numbers_map w.tree.shape (last_of w) (grown w.tree.shape e) (last_of (step o w (Done actor e))) w.session _ (λ n q x.
     let y = within o w (Done actor e) n q a in
     let out = job_in n.running actor (λ k. IsOutcome o w n k e) y.1 in
     let session : (grown w.tree.shape e).session ≡ w.tree.shape.session = same_session w.tree.shape e (not_open o w n out.0 e out.2) in
     let used : (m : ℕ) → has_number m (grown w.tree.shape e).used ≡ true → m < top_of w.tree.shape.session n =
     λ m i. elim (has_parts m w.tree.shape.used _ (subst (λ ns. has_number m ns ≡ true) (used_after w.tree.shape e (not_open o w n out.0 e out.2)) i)) [
       | inl b ↦ x.used m b
-      | inr b ↦ omega (arith, (block_of out.0 (outputs_of e) m out.2.numbers b).1, blocks_below _ n.running (actor, out.0) x.blocks out.1)
+      | inr b ↦ omega (arith, (block_of out.0 (outputs_of e) m out.2.formed.numbers b).1, blocks_below _ n.running (actor, out.0) x.blocks out.1)
     ] in
-    done n x session used (turn w.tree.shape n out.0 e out.2.same)) h
+    record {
+      positive = rw session x.positive;
+      used = rw session used;
+      room = x.room;
+      blocks = rw session (blocks_filter _ _ n.running x.blocks);
+      faults = rw session x.faults;
+      marks = done n x.marks session (turn w.tree.shape n out.0 e out.2.formed.same);
+    }) h
   where
-    done : (n : Session) → InNumbers w.tree.shape (last_number w.batches) n → (grown w.tree.shape e).session ≡ w.tree.shape.session
-        → ((m : ℕ) → has_number m (grown w.tree.shape e).used ≡ true → m < top_of w.tree.shape.session n) → Turn w.tree.shape n e
-        → InNumbers (grown w.tree.shape e) (last_number w.batches) (record n { running = without_job n.running actor; frozen = flushed e n.frozen })
-    done n x session used (Stays to log same) =
+    done : (n : Session) → InMarks w.tree.shape (last_of w) (marks_of n) → (grown w.tree.shape e).session ≡ w.tree.shape.session → Turn w.tree.shape n e
+        → InMarks (grown w.tree.shape e) (last_of (step o w (Done actor e))) (marks_of (record n { running = without_job n.running actor; frozen = flushed e n.frozen; edits_made = n.edits_made ++ e ∷ [] }))
+    done n x session (Stays to log same) =
         record {
-          positive = rw session x.positive;
-          used = rw session used;
-          room = x.room;
-          blocks = rw session (blocks_filter _ _ n.running x.blocks);
-          faults = rw session x.faults;
           log_least = x.log_least;
           log_room = rw session x.log_room;
           logs = omega (arith, log, x.logs);
           mem = omega (arith, to, x.mem);
-          mem_last = x.mem_last;
+          mem_last = omega (arith, to, x.mem_last);
+          stable = omega (arith, to, x.stable);
+          stable_last = omega (arith, to, x.stable_last);
           few = x.few;
-          fewer = x.fewer;
-          frozen = λ k q. let z = x.frozen k (sym (same n.frozen) ∙ q) in record { at = z.at; above = omega (arith, to, z.above); log = omega (arith, log, z.log); some = z.some };
+          fewer = λ l. x.fewer (omega (arith, to, l));
+          frozen = λ k q. let z = x.frozen k (sym (same n.frozen) ∙ q) in record { at = z.at; above = omega (arith, to, z.above); log = omega (arith, log, z.log); some = z.some; kept = z.kept };
         }
-    done n x session used (Flushes k fz to log same) =
+    done n x session (Flushes k fz to log same) =
         let z = x.frozen k fz in
         record {
-          positive = rw session x.positive;
-          used = rw session used;
-          room = x.room;
-          blocks = rw session (blocks_filter _ _ n.running x.blocks);
-          faults = rw session x.faults;
           log_least = x.log_least;
           log_room = rw session x.log_room;
           logs = omega (arith, log);
           mem = omega (arith, to, z.at);
-          mem_last = x.mem_last;
+          mem_last = omega (arith, to, z.at, x.mem_last);
+          stable = omega (arith, to, z.kept);
+          stable_last = omega (arith, to, z.at, z.above, x.mem_last, x.stable_last);
           few = x.few;
-          fewer = x.fewer;
+          fewer = λ l. x.fewer (omega (arith, to, z.at, z.above, x.mem_last, l));
           frozen = λ m q. absurd (none_some m (sym (same n.frozen) ∙ q));
         }
       where
         none_some : (k : ℕ) → None ≡ Some k → ⊥
         none_some k q = cc
-numbers_step o w (Short actor cause bytes) al h a =
-    numbers_map _ _ _ _ w.session _ (λ n e x. record {
-      positive = x.positive;
-      used = x.used;
-      room = x.room;
-      blocks = blocks_filter _ _ n.running x.blocks;
-      faults = x.faults;
-      log_least = x.log_least;
-      log_room = x.log_room;
-      logs = x.logs;
-      mem = x.mem;
-      mem_last = x.mem_last;
-      few = x.few;
-      fewer = x.fewer;
-      frozen = λ k q. let z = x.frozen k q in record { at = z.at; above = z.above; log = z.log; some = z.some };
-    }) h
-numbers_step o w JournalFault al h a =
-    numbers_map _ _ _ _ w.session _ (λ n e x. record {
-      positive = x.positive;
-      used = x.used;
-      room = x.room;
-      blocks = x.blocks;
-      faults = x.blocks;
-      log_least = x.log_least;
-      log_room = x.log_room;
-      logs = x.logs;
-      mem = x.mem;
-      mem_last = x.mem_last;
-      few = x.few;
-      fewer = x.fewer;
-      frozen = λ k q. let z = x.frozen k q in record { at = z.at; above = z.above; log = z.log; some = z.some };
-    }) h
-numbers_step o w (Stop m e) al h a = tt
+numbers_step o w (Short actor cause bytes) h a =
+    same_numbers w _ (λ n x. record { positive = x.positive; used = x.used; room = x.room; blocks = blocks_filter _ _ n.running x.blocks; faults = x.faults; marks = x.marks }) h
+numbers_step o w JournalFault h a = same_numbers w _ (λ n x. record { positive = x.positive; used = x.used; room = x.room; blocks = x.blocks; faults = x.blocks; marks = x.marks }) h
+numbers_step o w (Stop m e) h a = tt
+
+-- ---- numbers of entries
+
+-- what an outcome makes of the last number
+last_stays : (w : Standing) (n : Session) (e : Edit) → InMarks w.tree.shape (last_of w) (marks_of n) → Turn w.tree.shape n e → max (last_number w.batches) (grown w.tree.shape e).to ≡ last_of w
+last_stays w n e x (Stays to log same) = omega (arith, to)
+last_stays w n e x (Flushes k fz to log same) = let z = x.frozen k fz in omega (arith, to, z.at, z.above, x.mem_last)
+
+-- the last number lies within the session
+abbrev pub Spans : Standing → Type 0
+Spans w = Within (last_of w) w.tree.shape.session w.session
+
+-- numbers stay within the sessions that were opened
+pub spans_step : (o : Column) (w : Standing) (e : Event) → Numbers w → Spans w → Allowed o w w.session e → Spans (step o w e)
+spans_step o w (Opened session log) nu h a = by w.session a h
+  where
+    by : (s : Option Session) → Allowed o w s (Opened session log) → Within (last_of w) w.tree.shape.session s → Spans (step o w (Opened session log))
+    by None x y = (omega (arith, x.1, y), omega arith)
+    by (Some n) x y = absurd x
+spans_step o w (Commit actor first ops) nu h a = by w.session refl a h
+  where
+    by : (s : Option Session) → w.session ≡ s → Allowed o w s (Commit actor first ops) → Within (last_of w) w.tree.shape.session s → Spans (step o w (Commit actor first ops))
+    by None eq x y = absurd x
+    by (Some n) eq x y =
+        let last : last_number (w.batches ++ (first, ops) ∷ []) ≤ w.tree.shape.session * 2 ^ 40 + (n.committed + length ops) =
+        last_push w.batches first ops _ (omega (arith, y.0)) (omega (arith, x.3)) in
+        rw eq (omega (arith, last, y.0), x.4)
+spans_step o w (Synced actor m) nu h a = within_map _ _ w.session _ (λ n. refl) h
+spans_step o w (Look actor m) nu h a = h
+spans_step o w (Hold actor m) nu h a = within_map _ _ w.session _ (λ n. refl) h
+spans_step o w (Release actor m) nu h a = within_map _ _ w.session _ (λ n. refl) h
+spans_step o w (Freeze m) nu h a = within_map _ _ w.session _ (λ n. refl) h
+spans_step o w (Begin actor job) nu h a = within_map _ _ w.session _ (λ n. refl) h
+spans_step o w (Done actor e) nu h a = by w.session refl a h nu
+  where
+    by : (s : Option Session) → w.session ≡ s → Allowed o w s (Done actor e) → Within (last_of w) w.tree.shape.session s → NumbersHold w.tree.shape (last_of w) s → Spans (step o w (Done actor e))
+    by None eq x y z = absurd x
+    by (Some n) eq x y z =
+        let out = job_in n.running actor (λ k. IsOutcome o w n k e) x.1 in
+        let same = same_session w.tree.shape e (not_open o w n out.0 e out.2) in
+        let last = last_stays w n e z.marks (turn w.tree.shape n out.0 e out.2.formed.same) in
+        rw (eq, same) (omega (arith, last, y.0), y.1)
+spans_step o w (Short actor cause bytes) nu h a = within_map _ _ w.session _ (λ n. refl) h
+spans_step o w JournalFault nu h a = within_map _ _ w.session _ (λ n. refl) h
+spans_step o w (Stop m None) nu h a = by w.session a h
+  where
+    by : (s : Option Session) → Allowed o w s (Stop m None) → Within (last_of w) w.tree.shape.session s → Spans (step o w (Stop m None))
+    by None x y = absurd x
+    by (Some n) x y = omega (arith, last_some m w.batches, y.0, y.1)
+spans_step o w (Stop m (Some e)) nu h a = by w.session a h nu
+  where
+    by : (s : Option Session) → Allowed o w s (Stop m (Some e)) → Within (last_of w) w.tree.shape.session s → NumbersHold w.tree.shape (last_of w) s → Spans (step o w (Stop m (Some e)))
+    by None x y z = absurd x
+    by (Some n) x y z =
+        let out = job_in (last_running n) x.2.0 (λ k. IsOutcome o w n k e) x.2.1 in
+        let same = same_session w.tree.shape e (not_open o w n out.0 e out.2) in
+        let last = last_stays w n e z.marks (turn w.tree.shape n out.0 e out.2.formed.same) in
+        rw same (omega (arith, last_some m w.batches, last, y.0, y.1))

@@ -58,48 +58,56 @@ sorted_filter p (e ∷ es) h = by (p e) (sorted_filter p es h.1)
     by true r = ((λ f i. h.0 f (in_filter p f es i).0), r)
     by false r = r
 
-sorted_some : (c es : List Entry) → Sorted es → IsIn c (some_entries es) → Sorted c
-sorted_some c [] h i = absurd i
-sorted_some c (e ∷ es) h i = elim i [ inl s ↦ subst Sorted (sym s) h | inr r ↦ absurd r ]
+-- what holds of entries in order, and then of some of them, holds of the contents of all tables
 
-sorted_pieces : (c es : List Entry) (ks : List Bytes) → Sorted es → IsIn c (pieces es ks) → Sorted c
-sorted_pieces c es [] h i = sorted_some c es h i
-sorted_pieces c es (k ∷ ks) h i = elim (in_append c (some_entries (before_key k es)) (pieces (from_key k es) ks) i) [
-  | inl a ↦ sorted_some c (before_key k es) (sorted_filter _ es h) a
-  | inr b ↦ sorted_pieces c (from_key k es) ks (sorted_filter _ es h) b
-]
+module _ (Q : List Entry → Type 0) (none : Q []) (order : (es : List Entry) → Q (in_order es)) (less : (p : Entry → Bool) (es : List Entry) → Q es → Q (filter p es)) where
+  of_some : (c es : List Entry) → Q es → IsIn c (some_entries es) → Q c
+  of_some c [] h i = absurd i
+  of_some c (e ∷ es) h i = elim i [ inl s ↦ subst Q (sym s) h | inr r ↦ absurd r ]
+
+  of_pieces : (c es : List Entry) (ks : List Bytes) → Q es → IsIn c (pieces es ks) → Q c
+  of_pieces c es [] h i = of_some c es h i
+  of_pieces c es (k ∷ ks) h i = elim (in_append c (some_entries (before_key k es)) (pieces (from_key k es) ks) i) [
+    | inl a ↦ of_some c (before_key k es) (less _ es h) a
+    | inr b ↦ of_pieces c (from_key k es) ks (less _ es h) b
+  ]
+
+  of_content : (ts : List Table) (n : ℕ) → ((t : Table) → IsIn t ts → Q t.entries) → Q (content_of ts n)
+  of_content [] n h = none
+  of_content (t ∷ ts) n h = by (t.row.number == n) (of_content ts n (λ u i. h u (inr i)))
+    where
+      by : (b : Bool) → Q (content_of ts n) → Q (cond b t.entries (content_of ts n))
+      by true r = h t (inl refl)
+      by false r = r
+
+  pub of_contents : (o : Column) (bs : Batches) (t : Tree) (e : Edit) (c : List Entry) → ((u : Table) → IsIn u t.tables → Q u.entries) → IsIn c (contents o bs t e) → Q c
+  of_contents o bs t (Open session log) c h i = absurd i
+  of_contents o bs t (Flush row from to log chosen) c h i =
+      elim i [ inl s ↦ subst Q (sym s) (order (entries_between from to (entries_of bs))) | inr r ↦ absurd r ]
+  of_contents o bs t (Move level floor inputs outputs) c h i =
+      of_pieces c (kept (merged t.tables inputs) floor false) (guards_at t.shape (suc level)) (less _ (merged t.tables inputs) (order (flat_map (content_of t.tables) inputs))) i
+  of_contents o bs t (Cut level keys inputs outputs) c h i =
+      let r = in_flat (λ n. pieces (content_of t.tables n) keys) c inputs i in
+      of_pieces c (content_of t.tables r.0) keys (of_content t.tables r.0 h) r.2
+  of_contents o bs t (Merge floor whole inputs outputs) c h i =
+      of_some c (kept (merged t.tables inputs) floor whole) (less _ (merged t.tables inputs) (order (flat_map (content_of t.tables) inputs))) i
+
+  pub of_step : (o : Column) (bs : Batches) (t : Tree) (e : Edit) → ((u : Table) → IsIn u t.tables → Q u.entries) → (u : Table) → IsIn u (installed o bs t e).tables → Q u.entries
+  of_step o bs t e h u i = elim (after o bs t e u i) [
+    | inl a ↦ h u a.0
+    | inr b ↦ of_contents o bs t e u.entries h (in_paired u (outputs_of e) (contents o bs t e) b).1
+  ]
+
+-- ---- by their keys
 
 pub record AllSorted (ts : List Table) : Type 0 where
   pub sorted : (t : Table) → IsIn t ts → Sorted t.entries
 
-pub sorted_content : (ts : List Table) (n : ℕ) → ((t : Table) → IsIn t ts → Sorted t.entries) → Sorted (content_of ts n)
-sorted_content [] n h = tt
-sorted_content (t ∷ ts) n h = by (t.row.number == n) (sorted_content ts n (λ u i. h u (inr i)))
-  where
-    by : (b : Bool) → Sorted (content_of ts n) → Sorted (cond b t.entries (content_of ts n))
-    by true r = h t (inl refl)
-    by false r = r
-
 pub sorted_contents : (o : Column) (bs : Batches) (t : Tree) (e : Edit) (c : List Entry) → AllSorted t.tables → IsIn c (contents o bs t e) → Sorted c
-sorted_contents o bs t (Open session log) c h i = absurd i
-sorted_contents o bs t (Flush row from to log chosen) c h i =
-    elim i [ inl s ↦ subst Sorted (sym s) (sorted_in_order (entries_between from to (entries_of bs))) | inr r ↦ absurd r ]
-sorted_contents o bs t (Move level floor inputs outputs) c h i =
-    sorted_pieces c (kept (merged t.tables inputs) floor false) (guards_at t.shape (suc level)) (sorted_filter _ (merged t.tables inputs) (sorted_in_order (flat_map (content_of t.tables) inputs))) i
-sorted_contents o bs t (Cut level keys inputs outputs) c h i =
-    let r = in_flat (λ n. pieces (content_of t.tables n) keys) c inputs i in
-    sorted_pieces c (content_of t.tables r.0) keys (sorted_content t.tables r.0 h.sorted) r.2
-sorted_contents o bs t (Merge floor whole inputs outputs) c h i =
-    sorted_some c (kept (merged t.tables inputs) floor whole) (sorted_filter _ (merged t.tables inputs) (sorted_in_order (flat_map (content_of t.tables) inputs))) i
+sorted_contents o bs t e c h i = of_contents Sorted tt sorted_in_order sorted_filter o bs t e c h.sorted i
 
 pub sorted_step : (o : Column) (bs : Batches) (t : Tree) (e : Edit) → AllSorted t.tables → AllSorted (installed o bs t e).tables
-sorted_step o bs t e h =
-    record {
-      sorted = λ u i. elim (after o bs t e u i) [
-        | inl a ↦ h.sorted u a.0
-        | inr b ↦ sorted_contents o bs t e u.entries h (in_paired u (outputs_of e) (contents o bs t e) b).1
-      ];
-    }
+sorted_step o bs t e h = record { sorted = of_step Sorted tt sorted_in_order sorted_filter o bs t e h.sorted }
 
 -- the ends of a sorted list
 pub first_least : (es : List Entry) (y : Entry) → Sorted es → IsIn y es → key_le (first_key es) y.key ≡ true

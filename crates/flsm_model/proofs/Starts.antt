@@ -6,7 +6,6 @@ use Rattle.std.proofs.lemmas.Bool.{and_parts, and_from, or_cases, cases_Bool, eq
 use Rattle.peb_base.specs.Keys.{Bytes}
 use Rattle.flsm_model.specs.Ranges.{in_range, range_of, first_of}
 use Rattle.peb_base.specs.Numbers.{session_of, count_of}
-use Rattle.peb_base.specs.Batches.{last_number}
 use Rattle.flsm_model.specs.Compaction.{straddles}
 use Rattle.peb_base.specs.declared.table_row.TableRow.{TableRow}
 use Rattle.peb_base.specs.Profiles.{Column}
@@ -15,13 +14,13 @@ use Rattle.flsm_model.specs.declared.job_kind.JobKind.TheVariants.{Flush as Flus
 use Rattle.flsm_model.specs.declared.job.Job.{Job}
 use Rattle.flsm_model.specs.Shape.{Shape, has_number, guards_at, rows_numbered, rows_without}
 use Rattle.flsm_model.specs.Fits.{lies_in, is_some_list, is_candidate, is_guard, is_straddled}
-use Rattle.flsm_model.specs.Events.{Session, Standing}
+use Rattle.flsm_model.specs.Events.{Session, Standing, last_of}
 use Rattle.flsm_model.specs.Jobs.{IsOfKind, are_tables, job_range, IsLawful}
 use Rattle.peb_base.specs.Members.{IsIn}
 use Rattle.flsm_model.specs.Undisturbed.{NumbersFree, KeepsFlush, KeepsCut, KeepsKind, Undisturbed}
 use Rattle.flsm_model.proofs.Facts.{move_facts, cut_facts, merge_facts}
 use Rattle.flsm_model.proofs.Guards.{same_range}
-use Rattle.flsm_model.proofs.Truth.{All}
+use Rattle.flsm_model.proofs.InGuards.{InGuards}
 use Rattle.flsm_model.proofs.Sessions.{Numbers, NumbersHold, InNumbers}
 use Rattle.flsm_model.proofs.Lists.{in_filter, all_in, all_of}
 
@@ -70,23 +69,23 @@ pub first_in : (p : Bytes → Bool) (ks : List Bytes) → is_some_list ks ≡ tr
 first_in p [] a h = absurd (false≢true a)
 first_in p (k ∷ ks) a h = (and_parts _ _ h).0
 
-pub begin_numbers : (o : Column) (w : Standing) (n : Session) (j : Job) → All o w → Numbers w → w.session ≡ Some n → IsLawful o w n j → NumbersFree w.tree.shape j
-begin_numbers o w n j al nu eq l = by (subst (NumbersHold w.tree.shape (last_number w.batches)) eq nu)
+pub begin_numbers : (o : Column) (w : Standing) (n : Session) (j : Job) → Numbers w → w.session ≡ Some n → IsLawful o w n j → NumbersFree w.tree.shape j
+begin_numbers o w n j nu eq l = by (subst (NumbersHold w.tree.shape (last_of w)) eq nu)
   where
-    by : InNumbers w.tree.shape (last_number w.batches) n → NumbersFree w.tree.shape j
+    by : InNumbers w.tree.shape (last_of w) n → NumbersFree w.tree.shape j
     by x = record {
       own = λ m a b. and_from _ _ (eq-eqb (session_of m) w.tree.shape.session (omega (arith, a, b, l.numbers, l.room))) (lt-ltb 0 (count_of m) (omega (arith, a, b, l.numbers, l.room)));
       unused = λ m a b. elim (cases_Bool (has_number m w.tree.shape.used)) [ inl there ↦ absurd (omega (arith, x.used m there, a, l.numbers)) | inr absent ↦ absent ];
     }
 
-pub undisturbed_starts : (o : Column) (w : Standing) (n : Session) (j : Job) → All o w → Numbers w → w.session ≡ Some n → IsLawful o w n j → Undisturbed o w.tree.shape j
-undisturbed_starts o w n j al nu eq l = by j.kind refl l.kind
+pub undisturbed_starts : (o : Column) (w : Standing) (n : Session) (j : Job) → InGuards o w.tree.shape → Numbers w → w.session ≡ Some n → IsLawful o w n j → Undisturbed o w.tree.shape j
+undisturbed_starts o w n j guards nu eq l = by j.kind refl l.kind
   where
     s : Shape
     s = w.tree.shape
 
     free : NumbersFree w.tree.shape j
-    free = begin_numbers o w n j al nu eq l
+    free = begin_numbers o w n j nu eq l
 
     by : (a : JobKind) → j.kind ≡ a → IsOfKind a o w.tree.shape n j → Undisturbed o w.tree.shape j
     by FlushJob e k =
@@ -112,7 +111,7 @@ undisturbed_starts o w n j al nu eq l = by j.kind refl l.kind
         let f = cut_facts o w.tree.shape j.level j.keys j.inputs [] k.fit in
         let first : in_range j.lo j.hi (first_of j.keys) ≡ true = first_in (in_range j.lo j.hi) j.keys f.some k.keys in
         let same : range_of (guards_at w.tree.shape j.level) (first_of j.keys) ≡ (j.lo, j.hi) =
-        same_range [] (guards_at w.tree.shape j.level) j.lo (first_of j.keys) (al.holds.sound.guards.ascend j.level) (subst (λ r. in_range r.0 r.1 (first_of j.keys) ≡ true) (sym k.range) first) ∙ k.range in
+        same_range [] (guards_at w.tree.shape j.level) j.lo (first_of j.keys) (guards.ascend j.level) (subst (λ r. in_range r.0 r.1 (first_of j.keys) ≡ true) (sym k.range) first) ∙ k.range in
         let str : list_all (is_straddled j.level (j.lo, j.hi) j.keys) (rows_numbered j.inputs w.tree.shape.live) ≡ true =
         subst (λ r. list_all (is_straddled j.level r j.keys) (rows_numbered j.inputs w.tree.shape.live) ≡ true) same f.straddled in
         let at : list_all (λ r. r.level == j.level) (rows_numbered j.inputs w.tree.shape.live) ≡ true =

@@ -1,7 +1,7 @@
 -- The outcome of a job in flight stays what it was when the job began.
-use Rattle.std.proofs.Common.{◌≡◌, ℕ, suc, ◌+◌, ◌*◌, ◌^◌, ◌<◌, ◌≤◌, ◌≢◌, Bool, true, false, cond, ◌&&◌, not, List, [], ◌∷◌, ◌++◌, length, inl, inr, refl, sym, ◌∙◌, ap, subst, arith}
+use Rattle.std.proofs.Common.{◌≡◌, ℕ, suc, ◌+◌, ◌*◌, ◌^◌, ◌<◌, ◌≤◌, Bool, true, false, cond, ◌&&◌, not, List, [], ◌∷◌, ◌++◌, length, inl, inr, refl, sym, ◌∙◌, ap, subst, arith}
 use Rattle.std.specs.Prelude.{◌==◌, filter, flat_map, Option, Some, None, IsSome, option_map, ⊤}
-use Rattle.std.proofs.lemmas.Bool.{and_parts, and_from, cases_Bool, eqb-true, eqb-false, true≢false, false≢true, not-true}
+use Rattle.std.proofs.lemmas.Bool.{and_parts, and_from, cases_Bool, eqb-true, true≢false, false≢true, not-true}
 use Rattle.peb_base.specs.Keys.{Bytes, key_lt, key_le}
 use Rattle.flsm_model.specs.Ranges.{is_below, in_range}
 use Rattle.peb_base.specs.Batches.{Batches, last_number}
@@ -18,10 +18,10 @@ use Rattle.flsm_model.specs.declared.job.Job.{Job}
 use Rattle.flsm_model.specs.Shape.{grown, has_number, guards_at, inputs_of}
 use Rattle.flsm_model.specs.Fits.{is_live}
 use Rattle.flsm_model.specs.Trees.{Table, content_of, merged, installed, written_by, tables_without}
-use Rattle.flsm_model.specs.Events.{Event, Opened, Commit, Synced, Look, Hold, Release, Freeze, Begin, Done, Short, JournalFault, Stop, Session, Standing, Running, base}
+use Rattle.flsm_model.specs.Events.{Event, Opened, Commit, Synced, Look, Hold, Release, Freeze, Begin, Done, Short, JournalFault, Stop, Session, Standing, last_of, Running, base}
 use Rattle.flsm_model.specs.Steps.{flushed, without_job, step, run}
 use Rattle.flsm_model.specs.Claims.{jobs_conflict}
-use Rattle.flsm_model.specs.Outcomes.{frozen_entries, outcome, outcome_at, IsOutcome}
+use Rattle.flsm_model.specs.Outcomes.{frozen_entries, outcome, outcome_at}
 use Rattle.flsm_model.specs.Jobs.{IsLawful, IsFlush, IsOfKind}
 use Rattle.flsm_model.specs.Legal.{Allowed, AllowedIn, IsLegal, Always}
 use Rattle.peb_base.specs.Members.{IsIn}
@@ -32,16 +32,17 @@ use Rattle.flsm_model.proofs.Guards.{AscendFrom}
 use Rattle.flsm_model.proofs.Falls.{InFlight}
 use Rattle.flsm_model.proofs.Beside.{conflict_at, at_kinds, no_input}
 use Rattle.flsm_model.proofs.Covers.{number_in}
-use Rattle.flsm_model.proofs.Histories.{JobsHold, JobsIn, job_in, apart_pair, fresh_rows, within}
+use Rattle.flsm_model.proofs.Histories.{JobsHold, JobsIn, fresh_rows, within}
 use Rattle.flsm_model.proofs.Places.{Within}
 use Rattle.flsm_model.proofs.MapLaw.{SessionShows, InSession}
 use Rattle.flsm_model.proofs.Structure.{Agree, agree_push}
 use Rattle.flsm_model.proofs.Base.{deep}
-use Rattle.flsm_model.proofs.Truth.{All, all_base}
-use Rattle.flsm_model.proofs.Sessions.{NumbersHold, InNumbers, blocks_apart}
-use Rattle.flsm_model.proofs.Jobs.{EachJob, FaultJobs, InEach, Ends}
+use Rattle.flsm_model.proofs.Truth.{All}
+use Rattle.flsm_model.proofs.Sessions.{NumbersHold}
+use Rattle.flsm_model.proofs.Jobs.{EachJob, FaultJobs, FaultApart, InEach, JobsApart, Ends, ends_beside}
+use Rattle.flsm_model.proofs.Orders.{AllApart}
 use Rattle.flsm_model.proofs.Undisturb.{gone, inputs_apart, EditIs, IsFlushOf, IsMoveOf, IsCutOf, IsMergeOf, edit_is}
-use Rattle.flsm_model.proofs.Whole.{Stands, Calm, stands_step, stands_always}
+use Rattle.flsm_model.proofs.Whole.{Stands, Calm, stands_base, stands_step, stands_always}
 use Rattle.flsm_model.proofs.Lists.{in_filter, all_in, any_in, filter_all, filter_no}
 use Rattle.std.proofs.lemmas.List.{append-nil}
 
@@ -129,15 +130,16 @@ content_without ns (t ∷ ts) m h = by (has_number t.row.number ns) refl (conten
     by false e r = ap (λ z. cond (t.row.number == m) t.entries z) r
 
 -- another job's end leaves the inputs' entries
-pub inputs_stay : (o : Column) (w : Standing) (n : Session) (j k : Job) (e : Edit) → All o w → Ends o w n j k e → Undisturbed o w.tree.shape j → Undisturbed o w.tree.shape k
+pub inputs_stay : (o : Column) (w : Standing) (n : Session) (j k : Job) (e : Edit) → All o w → w.session ≡ Some n → Ends o w n j k e → Undisturbed o w.tree.shape j → Undisturbed o w.tree.shape k
     → (m : ℕ) → has_number m k.inputs ≡ true → content_of (installed o w.batches w.tree e).tables m ≡ content_of w.tree.tables m
-inputs_stay o w n j k e al en uj uk m hk =
+inputs_stay o w n j k e al eq en uj uk m hk =
+    let jobs : JobsIn o w.tree n = subst (JobsHold o w.tree) eq al.holds.jobs in
     let r = any_in (λ (x : TableRow). x.number == m) w.tree.shape.live (all_in (is_live w.tree.shape) m k.inputs uk.live (number_in m k.inputs hk)) in
     let same : r.0.number ≡ m = eqb-true r.0.number m r.2 in
-    let free : has_number m j.inputs ≡ false = subst (λ z. has_number z j.inputs ≡ false) same (inputs_apart o w n j k e al en uj uk r.0 r.1 (subst (λ z. has_number z k.inputs ≡ true) (sym same) hk)) in
-    let free2 : has_number m (inputs_of e) ≡ false = subst (λ ns. has_number m ns ≡ false) (sym (gone o w n j k e al en uj uk)) free in
+    let free : has_number m j.inputs ≡ false = subst (λ z. has_number z j.inputs ≡ false) same (inputs_apart o w n j k e al.holds.sound.guards al.holds.sound.known en uj uk r.0 r.1 (subst (λ z. has_number z k.inputs ≡ true) (sym same) hk)) in
+    let free2 : has_number m (inputs_of e) ≡ false = subst (λ ns. has_number m ns ≡ false) (sym (gone o w n j k e al.holds.sound.guards al.holds.sound.known en uj uk)) free in
     content_left (tables_without (inputs_of e) w.tree.tables) (written_by o w.batches w.tree e) m
-    (λ t i s. true≢false (sym (subst (λ z. has_number z k.inputs ≡ true) (sym s) hk) ∙ no_input o w.batches w.tree e k t (fresh_rows o w.tree.shape e en.outcome.fit) en.other i))
+    (λ t i s. true≢false (sym (subst (λ z. has_number z k.inputs ≡ true) (sym s) hk) ∙ no_input o w.batches w.tree e k t (fresh_rows o w.tree.shape e en.outcome.formed.fit) (jobs.now.each (en.other.0, k) en.other.1) i))
     ∙ content_without (inputs_of e) w.tree.tables m free2
 
 -- ---- what a job makes
@@ -194,35 +196,20 @@ jobs_of o w n st eq = subst (JobsHold o w.tree) eq st.all.holds.jobs
 
 calm_of : (o : Column) (w : Standing) (n : Session) → Stands o w → w.session ≡ Some n → EachJob (Calm o) w.tree n.running
 calm_of o w n st eq =
-    let each : EachJob (Calm o) w.tree n.running × FaultJobs (Calm o) w.tree n.faulted = subst (InEach (Calm o) w.tree) eq st.each in
+    let each : EachJob (Calm o) w.tree n.running × FaultJobs (Calm o) w.tree n.faulted = subst (InEach (Calm o) w.tree) eq st.formed.each in
     each.0
 
 -- an outcome of a job beside another one
 beside_of : (o : Column) (w : Standing) (n : Session) (actor : ℕ) (e : Edit) (r : Running) → Stands o w → w.session ≡ Some n → AllowedIn o w n (Done actor e) → IsIn r (without_job n.running actor)
     → (j : Job) × Ends o w n j r.1 e × IsIn (actor, j) n.running × IsIn r n.running
 beside_of o w n actor e r st eq a i =
-    let out = job_in n.running actor (λ k. IsOutcome o w n k e) a.1 in
-    let jo = jobs_of o w n st eq in
-    let num : InNumbers w.tree.shape (last_number w.batches) n = subst (NumbersHold w.tree.shape (last_number w.batches)) eq st.numbers in
-    let p = in_filter (λ (z : Running). not (z.0 == actor)) r n.running i in
-    let ne : r.0 ≢ actor = eqb-false r.0 actor (not-true _ p.1) in
-    let ne2 : actor ≢ r.0 = λ q. ne (sym q) in (
-      out.0,
-      record {
-        outcome = out.2;
-        mine = jo.now.each (actor, out.0) out.1;
-        other = jo.now.each r p.0;
-        apart = apart_pair n.running (actor, out.0) r jo.now.apart out.1 p.0 ne2;
-        numbers = blocks_apart _ n.running (actor, out.0) r num.blocks out.1 p.0 ne2;
-      },
-      out.1,
-      p.0,
-    )
+    let jobs : AllApart n.running × FaultApart n.faulted = subst JobsApart eq st.formed.apart in
+    ends_beside o w n actor e r jobs.0 (subst (NumbersHold w.tree.shape (last_of w)) eq st.formed.numbers) a i
 
 -- where a Flush stays in flight, no other Flush has ended: what is frozen, and the last flush, stay
 no_flush : (o : Column) (w : Standing) (n : Session) (j k : Job) (e : Edit) → Ends o w n j k e → Undisturbed o w.tree.shape j → Undisturbed o w.tree.shape k → k.kind ≡ FlushJob
     → ((f : Option ℕ) → flushed e f ≡ f) × ((grown w.tree.shape e).to ≡ w.tree.shape.to)
-no_flush o w n j k e en uj uk kf = by (edit_is n j e en.outcome.same)
+no_flush o w n j k e en uj uk kf = by (edit_is n j e en.outcome.formed.same)
   where
     by : EditIs j e → ((f : Option ℕ) → flushed e f ≡ f) × ((grown w.tree.shape e).to ≡ w.tree.shape.to)
     by (IsFlushOf q row from to log chosen s) =
@@ -287,10 +274,10 @@ input_content o w n r st eq (Release actor x) m a q i k h = refl
 input_content o w n r st eq (Freeze x) m a q i k h = refl
 input_content o w n r st eq (Begin actor job) m a q i k h = refl
 input_content o w n r st eq (Done actor e) m a q i k h =
-    let mm = mapped w.session (λ s. record s { running = without_job s.running actor; frozen = flushed e s.frozen }) n m eq q in
+    let mm = mapped w.session (λ s. record s { running = without_job s.running actor; frozen = flushed e s.frozen; edits_made = s.edits_made ++ e ∷ [] }) n m eq q in
     let b = beside_of o w n actor e r st eq a (subst (λ (s : Session). IsIn r s.running) (sym mm) i) in
     let c = calm_of o w n st eq in
-    inputs_stay o w n b.0 r.1 e st.all b.1 (c (actor, b.0) b.2) (c r b.3) k h
+    inputs_stay o w n b.0 r.1 e st.all eq b.1 (c (actor, b.0) b.2) (c r b.3) k h
 input_content o w n r st eq (Short actor cause bytes) m a q i k h = refl
 input_content o w n r st eq JournalFault m a q i k h = refl
 input_content o w n r st eq (Stop x e) m a q i k h = absurd (never_some m q)
@@ -321,7 +308,7 @@ frozen_content o w n r st ff eq j (Freeze x) m a q i k = absurd (none_is (subst 
     none_is z = absurd (false≢true z)
 frozen_content o w n r st ff eq j (Begin actor job) m a q i k = ap (λ (s : Session). frozen_entries w.batches w.tree.shape.to s.frozen) (sym (mapped w.session _ n m eq q))
 frozen_content o w n r st ff eq j (Done actor e) m a q i k =
-    let mm = mapped w.session (λ s. record s { running = without_job s.running actor; frozen = flushed e s.frozen }) n m eq q in
+    let mm = mapped w.session (λ s. record s { running = without_job s.running actor; frozen = flushed e s.frozen; edits_made = s.edits_made ++ e ∷ [] }) n m eq q in
     let b = beside_of o w n actor e r st eq a (subst (λ (s : Session). IsIn r s.running) (sym mm) i) in
     let c = calm_of o w n st eq in
     let same = no_flush o w n b.0 r.1 e b.1 (c (actor, b.0) b.2) (c r b.3) k in
@@ -357,4 +344,4 @@ pub outcomes_stay : Always OutcomesStay
 outcomes_stay p bs r h base_true legal n eq x i =
     let o = column p in
     outcome_stands o _ n x (deep p) (stands_always p bs r h base_true legal)
-    (frozen_run o (base o bs r) h (deep p) (record { all = all_base o bs r base_true; numbers = tt; each = tt }) tt legal) eq i
+    (frozen_run o (base true o bs r) h (deep p) (stands_base o bs r base_true) tt legal) eq i

@@ -19,7 +19,7 @@ use Rattle.flsm_model.specs.declared.job.Job.{Job}
 use Rattle.flsm_model.specs.Shape.{Record, Shape, grown, shape_from, shape_of, empty_shape, outputs_of}
 use Rattle.flsm_model.specs.Fits.{fits, fit_from, is_legal_record}
 use Rattle.flsm_model.specs.Choices.{Chooses}
-use Rattle.flsm_model.specs.TrueRecord.{DescribedFrom, IsTrue, Falls, Live, Flushed, SamePuts}
+use Rattle.flsm_model.specs.TrueRecord.{DescribedFrom, IsTrueRecord, Falls, Live, Flushed, SamePuts}
 use Rattle.flsm_model.specs.Events.{Event, Opened, Commit, Synced, Look, Hold, Release, Freeze, Begin, Done, Short, JournalFault, Stop, Session, Standing, base}
 use Rattle.flsm_model.specs.Outcomes.{IsEditOf, IsOutcome}
 use Rattle.flsm_model.specs.Legal.{Allowed, IsLegal, last_running, Always}
@@ -30,7 +30,7 @@ use Rattle.flsm_model.proofs.Places.{Placed, Within, placed_step, placed_base, s
 use Rattle.flsm_model.proofs.Shown.{above_low}
 use Rattle.flsm_model.proofs.Histories.{Holds, holds_step, job_in, within}
 use Rattle.flsm_model.proofs.Base.{sound_base, deep}
-use Rattle.flsm_model.proofs.MapLaw.{Shows, SessionShows, shows_step, still_frozen, to_after}
+use Rattle.flsm_model.proofs.MapLaw.{Shows, SessionShows, shows_step, still_frozen, to_after, last_same}
 use Rattle.flsm_model.proofs.MapBase.{shows_base}
 use Rattle.flsm_model.proofs.Structure.{Agree, tree_same, described_same, fit_push, tree_push, described_push, filter_none, agree_push, dropped_high}
 
@@ -211,7 +211,7 @@ told_step o w (Freeze m) hold pl sh h a =
       books = h.books;
       boundary = h.boundary;
       frozen = frozen_map w.batches w.batches w.session _ (λ n e b k q.
-          subst (λ z. is_boundary z w.batches ≡ true) (sym (within o w (Freeze m) n e a).3 ∙ some_same m k q) (boundary_of_last w.batches)) h.frozen;
+          subst (λ z. is_boundary z w.batches ≡ true) (sym (last_same w sh.to_last) ∙ sym (within o w (Freeze m) n e a).3 ∙ some_same m k q) (boundary_of_last w.batches)) h.frozen;
     }
   where
     some_same : (k q : ℕ) → Some k ≡ Some q → k ≡ q
@@ -224,8 +224,8 @@ told_step o w (Done actor e) hold pl sh h a = by w.session refl a h.frozen
     by (Some n) eq x y =
         let out = job_in n.running actor (λ k. IsOutcome o w n k e) x.1 in
         record {
-          books = books_edit o w.batches w.edits w.tree e h.books out.2.fit out.2.holds out.2.chooses;
-          boundary = boundary_after o w n out.0 e out.2.same h.boundary y;
+          books = books_edit o w.batches w.edits w.tree e h.books out.2.formed.fit (out.2.holds hold.tells) (out.2.chooses hold.tells);
+          boundary = boundary_after o w n out.0 e out.2.formed.same h.boundary y;
           frozen = frozen_map w.batches w.batches w.session _ (λ m q b k z. b k (still_frozen e m.frozen k z)) h.frozen;
         }
 told_step o w (Short actor cause bytes) hold pl sh h a =
@@ -249,15 +249,15 @@ told_step o w (Stop m (Some e)) hold pl sh h a = by w.session refl a sh.session 
     by None eq x y z = absurd x
     by (Some n) eq x y z =
         let out = job_in (last_running n) x.2.0 (λ q. IsOutcome o w n q e) x.2.1 in
-        let low : (installed o w.batches w.tree e).shape.to ≤ m = omega (arith, to_after o w n out.0 e out.2.same y, x.1) in
+        let low : (installed o w.batches w.tree e).shape.to ≤ m = omega (arith, to_after o w n out.0 e out.2.formed.same y, x.1) in
         record {
           books = books_batches o w.batches (batches_to m w.batches) (w.edits ++ e ∷ []) (installed o w.batches w.tree e) m
-              (books_edit o w.batches w.edits w.tree e h.books out.2.fit out.2.holds out.2.chooses) (agree_drop 0 m w.batches pl.ordered x.0) low;
-          boundary = boundary_drop (installed o w.batches w.tree e).shape.to m w.batches (boundary_after o w n out.0 e out.2.same h.boundary z) low;
+              (books_edit o w.batches w.edits w.tree e h.books out.2.formed.fit (out.2.holds hold.tells) (out.2.chooses hold.tells)) (agree_drop 0 m w.batches pl.ordered x.0) low;
+          boundary = boundary_drop (installed o w.batches w.tree e).shape.to m w.batches (boundary_after o w n out.0 e out.2.formed.same h.boundary z) low;
           frozen = tt;
         }
 
-pub told_base : (o : Column) (bs : Batches) (r : Record) → IsTrue o r bs → Told o (base o bs r)
+pub told_base : (o : Column) (bs : Batches) (r : Record) → IsTrueRecord o r bs → Told o (base true o bs r)
 told_base o bs r h =
     record {
       books = record { tree = refl; legal = h.legal; described = h.described };
@@ -272,7 +272,7 @@ pub record All (o : Column) (w : Standing) : Type 0 where
   pub shows : Shows o w
   pub told : Told o w
 
-pub all_base : (o : Column) (bs : Batches) (r : Record) → IsTrue o r bs → All o (base o bs r)
+pub all_base : (o : Column) (bs : Batches) (r : Record) → IsTrueRecord o r bs → All o (base true o bs r)
 all_base o bs r h = record { holds = sound_base o r bs h; placed = placed_base o bs r h; shows = shows_base o bs r h; told = told_base o bs r h }
 
 pub all_step : (o : Column) (w : Standing) (e : Event) → 0 < o.last_level → All o w → Allowed o w w.session e → All o (step o w e)
@@ -313,7 +313,7 @@ all_true o w h =
 
 pub record_is_true : Always RecordIsTrue
 record_is_true p bs r h base_true legal =
-    all_true (column p) _ (all_run (column p) (base (column p) bs r) h (deep p) (all_base (column p) bs r base_true) legal)
+    all_true (column p) _ (all_run (column p) (base true (column p) bs r) h (deep p) (all_base (column p) bs r base_true) legal)
 
 -- logs stay between the last flush's and the session's
 pub record Logs (s : Shape) : Type 0 where
@@ -366,7 +366,7 @@ opens_next o w h =
 
 pub stop_leaves_base : Always StopLeavesBase
 stop_leaves_base p bs r h base_true legal none =
-    let a = all_run (column p) (base (column p) bs r) h (deep p) (all_base (column p) bs r base_true) legal in
+    let a = all_run (column p) (base true (column p) bs r) h (deep p) (all_base (column p) bs r base_true) legal in
     (all_true (column p) _ a, opens_next (column p) _ a)
 
 pub written_once : Always WrittenOnce

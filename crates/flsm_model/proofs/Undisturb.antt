@@ -1,17 +1,14 @@
 -- A job in flight is not disturbed by the end of another one.
-use Rattle.std.proofs.Common.{◌≡◌, ℕ, suc, ◌<◌, ◌≤◌, ◌≢◌, Bool, true, false, ◌&&◌, ◌||◌, not, List, [], ◌∷◌, ◌++◌, length, inl, inr, refl, sym, ◌∙◌, ap, subst, arith}
+use Rattle.std.proofs.Common.{◌≡◌, ℕ, suc, ◌≤◌, ◌≢◌, Bool, true, false, ◌&&◌, ◌||◌, not, List, [], ◌∷◌, ◌++◌, inl, inr, refl, sym, ◌∙◌, ap, subst, arith}
 use Rattle.std.specs.Prelude.{◌==◌, filter}
-use Rattle.std.specs.List.{list_any, list_all, AllZip}
+use Rattle.std.specs.List.{list_any, list_all}
 use Rattle.std.proofs.lemmas.Bool.{and_parts, and_from, or_left, or_right, or_cases, cases_Bool, eqb-true, eq-eqb, true≢false, false≢true, not-true}
 use Rattle.std.proofs.lemmas.List.Elements.{filter-append}
 use Rattle.std.specs.Cmp.Lexicographic.{bytes_decides}
 use Rattle.peb_base.specs.Keys.{Bytes, key_le, key_eq}
 use Rattle.flsm_model.specs.Ranges.{in_range, ranges_meet, has_key, range_of}
-use Rattle.peb_base.specs.Tables.{first_key}
 use Rattle.flsm_model.specs.Compaction.{straddles}
-use Rattle.flsm_model.specs.Trees.{Describes, Table, paired, contents, written_by}
 use Rattle.flsm_model.proofs.RangeFacts.{common_key}
-use Rattle.peb_base.specs.declared.entry.Entry.{Entry}
 use Rattle.peb_base.specs.declared.table_row.TableRow.{TableRow}
 use Rattle.peb_base.specs.Profiles.{Column}
 use Rattle.flsm_model.specs.declared.chosen.Chosen.{Chosen}
@@ -30,15 +27,14 @@ use Rattle.flsm_model.specs.Outcomes.{IsEditOf}
 use Rattle.peb_base.specs.Members.{IsIn}
 use Rattle.flsm_model.specs.Undisturbed.{NumbersFree, KeepsFlush, KeepsCut, KeepsMerge, KeepsKind, Undisturbed}
 use Rattle.flsm_model.proofs.Facts.{move_facts, flush_facts, cut_facts, merge_facts}
-use Rattle.flsm_model.proofs.Members.{has_in, from_move, from_merge, from_cut}
-use Rattle.flsm_model.proofs.InGuards.{start_in, new_rows}
+use Rattle.flsm_model.proofs.Members.{has_in}
+use Rattle.flsm_model.proofs.InGuards.{InGuards, start_in, new_rows}
 use Rattle.flsm_model.proofs.Beside.{conflict_at, at_kinds, new_is_fresh}
 use Rattle.flsm_model.proofs.Histories.{fresh_rows}
 use Rattle.flsm_model.proofs.Places.{same_session, not_open}
 use Rattle.flsm_model.proofs.GuardKeys.{GuardsTurn, Same, More, guards_turn, guard_stays, ranges_same, filter_withs, withs_has}
-use Rattle.flsm_model.proofs.Truth.{All}
+use Rattle.flsm_model.proofs.Begin.{Known, input_known}
 use Rattle.flsm_model.proofs.Sessions.{used_after, has_parts, block_of}
-use Rattle.flsm_model.proofs.Committed.{chosen_left}
 use Rattle.flsm_model.proofs.Jobs.{Ends}
 use Rattle.flsm_model.proofs.Lists.{in_filter, in_append, all_in, in_any, any_in, in_left, in_kept, each_in, all_of, filter_no, filter_under}
 use Rattle.std.proofs.lemmas.List.{append-nil}
@@ -85,6 +81,10 @@ live_after s (Move level floor inputs outputs) h = refl
 live_after s (Cut level keys inputs outputs) h = refl
 live_after s (Merge floor whole inputs outputs) h = refl
 
+pub chosen_left : (cs ds : List Chosen) (k : Bytes) → is_chosen cs k ≡ true → is_chosen (cs ++ ds) k ≡ true
+chosen_left [] ds k h = absurd (false≢true h)
+chosen_left (c ∷ cs) ds k h = elim (or_cases (key_eq k c.key) (is_chosen cs k) h) [ inl s ↦ or_left _ _ s | inr r ↦ or_right (key_eq k c.key) _ (chosen_left cs ds k r) ]
+
 chosen_after : (s : Shape) (e : Edit) (k : Bytes) → is_chosen s.chosen k ≡ true → is_chosen (grown s e).chosen k ≡ true
 chosen_after s (Open a b) k h = h
 chosen_after s (Flush row from to log chosen) k h = chosen_left s.chosen chosen k h
@@ -124,25 +124,9 @@ edit_is n j e same = by j.kind refl e same
     by MergeJob k (Move level fl inputs outputs) q = absurd q
     by MergeJob k (Cut level keys inputs outputs) q = absurd q
 
--- an output row has the key of an entry of its content for its smallest
-pub row_entry : (o : Column) (r : TableRow) (rows : List TableRow) (cs : List (List Entry)) → AllZip (Describes o) rows cs → IsIn r rows
-    → (t : Table) × IsIn t (paired rows cs) × (t.row ≡ r) × ((x : Entry) × IsIn x t.entries × (x.key ≡ r.smallest))
-row_entry o r [] cs d i = absurd i
-row_entry o r (q ∷ rows) [] d i = absurd d
-row_entry o r (q ∷ rows) (c ∷ cs) d i = elim i [
-  | inl s ↦
-      let f = some_first c d.0.tells.some in
-      (record { row = q; entries = c }, inl refl, sym s, (f.0, f.1, f.2 ∙ sym d.0.tells.smallest ∙ ap (λ (z : TableRow). z.smallest) (sym s)))
-  | inr m ↦ let t = row_entry o r rows cs d.1 m in (t.0, inr t.1, t.2, t.3)
-]
-  where
-    some_first : (c : List Entry) → 0 < length c → (x : Entry) × IsIn x c × (x.key ≡ first_key c)
-    some_first [] l = absurd (omega arith)
-    some_first (x ∷ xs) l = (x, inl refl, refl)
-
-module _ (o : Column) (w : Standing) (n : Session) (j k : Job) (e : Edit) (al : All o w) (en : Ends o w n j k e) (uj : Undisturbed o w.tree.shape j) (uk : Undisturbed o w.tree.shape k) where
+module _ (o : Column) (w : Standing) (n : Session) (j k : Job) (e : Edit) (guards : InGuards o w.tree.shape) (fresh : Known w.tree.shape) (en : Ends o w n j k e) (uj : Undisturbed o w.tree.shape j) (uk : Undisturbed o w.tree.shape k) where
   pub gone : inputs_of e ≡ j.inputs
-  gone = by (edit_is n j e en.outcome.same)
+  gone = by (edit_is n j e en.outcome.formed.same)
     where
       by : EditIs j e → inputs_of e ≡ j.inputs
       by (IsFlushOf q row from to log chosen s) =
@@ -157,7 +141,7 @@ module _ (o : Column) (w : Standing) (n : Session) (j k : Job) (e : Edit) (al : 
 
   -- a row in the range of a job has its smallest key in it
   start : (i : Job) (r : TableRow) → IsIn r w.tree.shape.live → lies_in (job_range i) r ≡ true → in_range i.lo i.hi r.smallest ≡ true
-  start i r m h = start_in (job_range i) r (each_in (λ (x : TableRow). key_le x.smallest x.largest ≡ true) r w.tree.shape.live al.holds.sound.guards.rows m) h
+  start i r m h = start_in (job_range i) r (each_in (λ (x : TableRow). key_le x.smallest x.largest ≡ true) r w.tree.shape.live guards.rows m) h
 
   -- no row is an input of both
   pub inputs_apart : (r : TableRow) → IsIn r w.tree.shape.live → has_number r.number k.inputs ≡ true → has_number r.number j.inputs ≡ false
@@ -174,8 +158,8 @@ module _ (o : Column) (w : Standing) (n : Session) (j k : Job) (e : Edit) (al : 
   new_apart : (r : TableRow) → IsIn r (outputs_of e) → has_number r.number k.inputs ≡ false
   new_apart r i = elim (cases_Bool (has_number r.number k.inputs)) [
     | inl there ↦
-        let p = new_is_fresh w.tree.shape.session w.tree.shape.used (outputs_of e) r (fresh_rows o w.tree.shape e en.outcome.fit) i in
-        absurd (true≢false (sym (and_from _ _ p.0 (ap not p.1)) ∙ en.other.known r.number there))
+        let p = new_is_fresh w.tree.shape.session w.tree.shape.used (outputs_of e) r (fresh_rows o w.tree.shape e en.outcome.formed.fit) i in
+        absurd (true≢false (sym (and_from _ _ p.0 (ap not p.1)) ∙ input_known w.tree.shape k.inputs fresh uk.live r.number there))
     | inr absent ↦ absent
   ]
 
@@ -199,7 +183,7 @@ module _ (o : Column) (w : Standing) (n : Session) (j k : Job) (e : Edit) (al : 
   -- the keys of a Cut at a level where it would conflict lie outside
   keys_outside : (l : ℕ) (keys : List Bytes) (inputs : List ℕ) (outputs : List TableRow) → e ≡ Cut l keys inputs outputs
       → (j.kind ≡ CutJob → (j.level == l) ≡ true → ranges_meet j.lo j.hi k.lo k.hi ≡ true → ⊥) → list_all (λ a. not (in_range k.lo k.hi a)) keys ≡ true
-  keys_outside l keys inputs outputs s never = by (edit_is n j e en.outcome.same)
+  keys_outside l keys inputs outputs s never = by (edit_is n j e en.outcome.formed.same)
     where
       goal : j.kind ≡ CutJob → keys ≡ j.keys → l ≡ j.level → list_all (λ a. not (in_range k.lo k.hi a)) keys ≡ true
       goal q ks ls =
@@ -232,7 +216,7 @@ module _ (o : Column) (w : Standing) (n : Session) (j k : Job) (e : Edit) (al : 
 
   -- a Cut's level is 1 or deeper
   cut_deep : (l : ℕ) (keys : List Bytes) (inputs : List ℕ) (outputs : List TableRow) → e ≡ Cut l keys inputs outputs → 1 ≤ l
-  cut_deep l keys inputs outputs s = (cut_facts o w.tree.shape l keys inputs outputs (subst (λ z. fits o w.tree.shape z ≡ true) s en.outcome.fit)).from
+  cut_deep l keys inputs outputs s = (cut_facts o w.tree.shape l keys inputs outputs (subst (λ z. fits o w.tree.shape z ≡ true) s en.outcome.formed.fit)).from
 
   never_own : (l : ℕ) → l ≡ k.level → 1 ≤ l → j.kind ≡ CutJob → (j.level == l) ≡ true → ranges_meet j.lo j.hi k.lo k.hi ≡ true → ⊥
   never_own l s d q e2 m = own_conflict j k en.apart (λ z. kinds (sym q ∙ z)) flush (eq-eqb j.level k.level (eqb-true j.level l e2 ∙ s)) m
@@ -249,7 +233,7 @@ module _ (o : Column) (w : Standing) (n : Session) (j k : Job) (e : Edit) (al : 
   own_outside keys inputs outputs s = keys_outside k.level keys inputs outputs s (never_own k.level refl (cut_deep k.level keys inputs outputs s))
 
   range_stays : IsRange (grown w.tree.shape e) k.level k
-  range_stays = by (guards_turn o w.tree.shape e k.level al.holds.sound.guards en.outcome.fit)
+  range_stays = by (guards_turn o w.tree.shape e k.level guards en.outcome.formed.fit)
     where
       by : GuardsTurn w.tree.shape e k.level → range_of (guards_at (grown w.tree.shape e) k.level) k.lo ≡ (k.lo, k.hi)
       by (Same q) = ap (λ gs. range_of gs k.lo) q ∙ uk.range
@@ -260,7 +244,7 @@ module _ (o : Column) (w : Standing) (n : Session) (j k : Job) (e : Edit) (al : 
           ∙ uk.range
 
   next_stays : k.kind ≡ MoveJob → guards_in (grown w.tree.shape e) (suc k.level) (job_range k) ≡ guards_in w.tree.shape (suc k.level) (job_range k)
-  next_stays q2 = by (guards_turn o w.tree.shape e (suc k.level) al.holds.sound.guards en.outcome.fit)
+  next_stays q2 = by (guards_turn o w.tree.shape e (suc k.level) guards en.outcome.formed.fit)
     where
       by : GuardsTurn w.tree.shape e (suc k.level) → filter (in_range k.lo k.hi) (guards_at (grown w.tree.shape e) (suc k.level)) ≡ filter (in_range k.lo k.hi) (guards_at w.tree.shape (suc k.level))
       by (Same q) = ap (filter (in_range k.lo k.hi)) q
@@ -279,7 +263,7 @@ module _ (o : Column) (w : Standing) (n : Session) (j k : Job) (e : Edit) (al : 
         unused = λ m a b. elim (cases_Bool (has_number m (grown w.tree.shape e).used)) [
           | inl there ↦ elim (has_parts m w.tree.shape.used _ (subst (λ ns. has_number m ns ≡ true) (used_after w.tree.shape e (not_open o w n j e en.outcome)) there)) [
             | inl old ↦ absurd (true≢false (sym old ∙ uk.numbers.unused m a b))
-            | inr new ↦ let c = block_of j (outputs_of e) m en.outcome.numbers new in absurd (elim en.numbers [ inl x ↦ omega (arith, x, a, b, c.0, c.1) | inr x ↦ omega (arith, x, a, b, c.0, c.1) ])
+            | inr new ↦ let c = block_of j (outputs_of e) m en.outcome.formed.numbers new in absurd (elim en.numbers [ inl x ↦ omega (arith, x, a, b, c.0, c.1) | inr x ↦ omega (arith, x, a, b, c.0, c.1) ])
           ]
           | inr absent ↦ absent
         ];
@@ -287,7 +271,7 @@ module _ (o : Column) (w : Standing) (n : Session) (j k : Job) (e : Edit) (al : 
 
   -- an output at the level of a Cut in flight lies outside its range
   output_outside : k.kind ≡ CutJob → (r : TableRow) → IsIn r (outputs_of e) → is_straddled k.level (job_range k) k.keys r ≡ true → ⊥
-  output_outside q2 r i st = by (edit_is n j e en.outcome.same)
+  output_outside q2 r i st = by (edit_is n j e en.outcome.formed.same)
     where
       f : KeepsCut o w.tree.shape k
       f = subst (λ a. KeepsKind a o w.tree.shape k) q2 uk.kind
@@ -304,35 +288,31 @@ module _ (o : Column) (w : Standing) (n : Session) (j k : Job) (e : Edit) (al : 
       order : (e2 : Edit) → fits o w.tree.shape e2 ≡ true → IsIn r (outputs_of e2) → key_le r.smallest r.largest ≡ true
       order e2 ft m = each_in (λ (x : TableRow). key_le x.smallest x.largest ≡ true) r (outputs_of e2) (new_rows w.tree.shape.session w.tree.shape.used (outputs_of e2) (fresh_rows o w.tree.shape e2 ft)) m
 
-      meet : ((t : Table) (x : Entry) → IsIn t (written_by o w.batches w.tree e) → IsIn x t.entries → in_range j.lo j.hi x.key ≡ true) → ranges_meet j.lo j.hi k.lo k.hi ≡ true
-      meet inside =
-          let t = row_entry o r (outputs_of e) (contents o w.batches w.tree e) en.outcome.holds i in
-          let mine : in_range j.lo j.hi r.smallest ≡ true = subst (λ z. in_range j.lo j.hi z ≡ true) t.3.2 (inside t.0 t.3.0 t.1 t.3.1) in
-          let other : in_range k.lo k.hi r.smallest ≡ true = start_in (job_range k) r (order e en.outcome.fit i) (straddled_parts k.level (job_range k) k.keys r st).1 in
+      meet : ranges_meet j.lo j.hi k.lo k.hi ≡ true
+      meet =
+          let mine : in_range j.lo j.hi r.smallest ≡ true = start_in (job_range j) r (order e en.outcome.formed.fit i) (all_in (lies_in (job_range j)) r (outputs_of e) en.outcome.formed.inside i) in
+          let other : in_range k.lo k.hi r.smallest ≡ true = start_in (job_range k) r (order e en.outcome.formed.fit i) (straddled_parts k.level (job_range k) k.keys r st).1 in
           common_key j.lo k.lo r.smallest j.hi k.hi mine other
 
       by : EditIs j e → ⊥
       by (IsFlushOf q row from to log chosen s) =
           let m : IsIn r (row ∷ []) = subst (λ z. IsIn r (outputs_of z)) s i in
-          let g = flush_facts o w.tree.shape row from to log chosen (subst (λ z. fits o w.tree.shape z ≡ true) s en.outcome.fit) in
+          let g = flush_facts o w.tree.shape row from to log chosen (subst (λ z. fits o w.tree.shape z ≡ true) s en.outcome.formed.fit) in
           let at : r.level ≡ 0 = elim m [ inl a ↦ ap (λ (z : TableRow). z.level) a ∙ g.at | inr b ↦ absurd b ] in
           omega (arith, at, level, f.from)
       by (IsMoveOf q floor outputs s) =
-          let g = move_facts o w.tree.shape j.level floor j.inputs outputs (subst (λ z. fits o w.tree.shape z ≡ true) s en.outcome.fit) in
+          let g = move_facts o w.tree.shape j.level floor j.inputs outputs (subst (λ z. fits o w.tree.shape z ≡ true) s en.outcome.formed.fit) in
           let at : r.level ≡ suc j.level = eqb-true r.level (suc j.level) (all_in (λ (x : TableRow). x.level == suc j.level) r outputs g.below (subst (λ z. IsIn r (outputs_of z)) s i)) in
-          let mt = meet (λ t x a b. let u = from_move o w.batches w.tree j.level floor j.inputs outputs t x (subst (λ z. IsIn t (written_by o w.batches w.tree z)) s a) b in en.mine.inside u.0 x u.1 u.2 u.3) in
-          true≢false (sym (move_cut j k (eq-eqb (suc j.level) k.level (sym at ∙ level)) mt) ∙ at_kinds MoveJob CutJob j k q q2 en.apart)
+          true≢false (sym (move_cut j k (eq-eqb (suc j.level) k.level (sym at ∙ level)) meet) ∙ at_kinds MoveJob CutJob j k q q2 en.apart)
       by (IsCutOf q outputs s) =
-          let g = cut_facts o w.tree.shape j.level j.keys j.inputs outputs (subst (λ z. fits o w.tree.shape z ≡ true) s en.outcome.fit) in
+          let g = cut_facts o w.tree.shape j.level j.keys j.inputs outputs (subst (λ z. fits o w.tree.shape z ≡ true) s en.outcome.formed.fit) in
           let at : r.level ≡ j.level = eqb-true r.level j.level (all_in (λ (x : TableRow). x.level == j.level) r outputs g.at (subst (λ z. IsIn r (outputs_of z)) s i)) in
-          let mt = meet (λ t x a b. let u = from_cut o w.batches w.tree j.level j.keys j.inputs outputs t x (subst (λ z. IsIn t (written_by o w.batches w.tree z)) s a) b in en.mine.inside u.0 x u.1 u.2 u.3) in
-          own_conflict j k en.apart (λ z. kinds (sym q ∙ z)) (λ z. kinds (sym q2 ∙ z)) (eq-eqb j.level k.level (sym at ∙ level)) mt
+          own_conflict j k en.apart (λ z. kinds (sym q ∙ z)) (λ z. kinds (sym q2 ∙ z)) (eq-eqb j.level k.level (sym at ∙ level)) meet
       by (IsMergeOf q floor whole outputs s) =
-          let g = merge_facts o w.tree.shape floor whole j.inputs outputs (subst (λ z. fits o w.tree.shape z ≡ true) s en.outcome.fit) in
+          let g = merge_facts o w.tree.shape floor whole j.inputs outputs (subst (λ z. fits o w.tree.shape z ≡ true) s en.outcome.formed.fit) in
           let at : r.level ≡ o.last_level = eqb-true r.level o.last_level (all_in (λ (x : TableRow). x.level == o.last_level) r outputs g.below (subst (λ z. IsIn r (outputs_of z)) s i)) in
           let h : KeepsMerge o j = subst (λ a. KeepsKind a o w.tree.shape j) q uj.kind in
-          let mt = meet (λ t x a b. let u = from_merge o w.batches w.tree floor whole j.inputs outputs t x (subst (λ z. IsIn t (written_by o w.batches w.tree z)) s a) b in en.mine.inside u.0 x u.1 u.2 u.3) in
-          own_conflict j k en.apart (λ z. kinds2 (sym q ∙ z)) (λ z. kinds (sym q2 ∙ z)) (eq-eqb j.level k.level (h.level ∙ sym at ∙ level)) mt
+          own_conflict j k en.apart (λ z. kinds2 (sym q ∙ z)) (λ z. kinds (sym q2 ∙ z)) (eq-eqb j.level k.level (h.level ∙ sym at ∙ level)) meet
 
   cut_stays : k.kind ≡ CutJob → KeepsCut o w.tree.shape k → KeepsCut o (grown w.tree.shape e) k
   cut_stays q2 f =
@@ -344,8 +324,8 @@ module _ (o : Column) (w : Standing) (n : Session) (j k : Job) (e : Edit) (al : 
         keys = all_of _ k.keys (λ a i.
             let p = cut_key o w.tree.shape k a f i in
             let c = and_parts _ _ p.candidate in
-            and_from _ _ (and_from _ _ (and_from _ _ (and_from _ _ (chosen_after w.tree.shape e a c.0) c.1) p.inside) (no_guard a p.inside p.fresh (guards_turn o w.tree.shape e k.level al.holds.sound.guards en.outcome.fit)))
-            (elim (or_cases _ _ p.next) [ inl x ↦ or_left _ _ x | inr y ↦ or_right (k.level == o.last_level) _ (guard_stays o w.tree.shape e (suc k.level) a al.holds.sound.guards en.outcome.fit y) ]));
+            and_from _ _ (and_from _ _ (and_from _ _ (and_from _ _ (chosen_after w.tree.shape e a c.0) c.1) p.inside) (no_guard a p.inside p.fresh (guards_turn o w.tree.shape e k.level guards en.outcome.formed.fit)))
+            (elim (or_cases _ _ p.next) [ inl x ↦ or_left _ _ x | inr y ↦ or_right (k.level == o.last_level) _ (guard_stays o w.tree.shape e (suc k.level) a guards en.outcome.formed.fit y) ]));
         straddled = subst (λ rs. list_all (λ r. list_any (straddles r) k.keys) rs ≡ true) (sym rows_stay) f.straddled;
         others = all_of _ (rows_without k.inputs (grown w.tree.shape e).live) (λ r i.
             let p = in_filter (λ (x : TableRow). not (has_number x.number k.inputs)) r (grown w.tree.shape e).live i in

@@ -7,7 +7,7 @@ use Rattle.peb_base.specs.declared.profile.Profile.{Profile}
 use Rattle.flsm_model.specs.Shape.{Record}
 use Rattle.flsm_model.specs.Trees.{empty_tree}
 use Rattle.flsm_model.specs.Writes.{holds, total, one_if, writes_from, cuts_from}
-use Rattle.flsm_model.specs.TrueRecord.{IsTrue}
+use Rattle.flsm_model.specs.TrueRecord.{IsTrueRecord}
 use Rattle.flsm_model.specs.Events.{Attempt, Standing}
 
 -- how many attempts into the level had the entry numbered q in their outcome
@@ -33,5 +33,5 @@ WrittenOnce o w = (q level : ℕ) → level < o.last_level → written o w q lev
 -- the same of any record that is true of its batches, where no attempts are known
 abbrev pub RecordBound : Type 0
 RecordBound =
-    (p : Profile) (bs : Batches) (r : Record) (q level : ℕ) → IsTrue (column p) r bs → level < (column p).last_level
+    (p : Profile) (bs : Batches) (r : Record) (q level : ℕ) → IsTrueRecord (column p) r bs → level < (column p).last_level
     → writes_from (column p) bs (empty_tree (column p)) q level r ≤ 1 + cuts_from (column p) bs (empty_tree (column p)) q level r

@@ -1,5 +1,5 @@
 -- What happens to a store, one event after another, and what stands after it.
-use Rattle.std.specs.Prelude.{ℕ, List, [], Option, None}
+use Rattle.std.specs.Prelude.{ℕ, max, Bool, List, [], Option, None}
 use Rattle.peb_base.specs.Batches.{Batches, last_number}
 use Rattle.peb_base.specs.declared.entry.Entry.{Entry}
 use Rattle.peb_base.specs.declared.op.Op.{Op}
@@ -8,6 +8,7 @@ use Rattle.flsm_model.specs.declared.edit.Edit.{Edit}
 use Rattle.flsm_model.specs.declared.job.Job.{Job}
 use Rattle.flsm_model.specs.declared.short_cause.ShortCause.{ShortCause}
 use Rattle.flsm_model.specs.Shape.{Record}
+use Rattle.flsm_model.specs.Ledgers.{Shorts}
 use Rattle.flsm_model.specs.Trees.{Tree, tree_of}
 
 -- each is one turn of one actor at the store; `n` is the number that it was told, or names
@@ -41,6 +42,8 @@ pub record Session : Type 0 where
   pub held : List (ℕ × ℕ)  -- actors with the snapshots that they hold
   pub running : List Running
   pub faulted : Option (List Running)  -- after the journal's fault: the jobs that were in flight at it
+  pub edits_made : Record  -- after the opening's own edit
+  pub jobs_cut_short : Shorts  -- the level into which each wrote, and the bytes
 
 -- a job that was cut short, or in flight at a stop: the level into which it wrote, and the contents of its outcome
 abbrev pub Attempt : Type 0
@@ -48,22 +51,27 @@ Attempt = ℕ × List (List Entry)
 
 -- what stands after a history
 pub record Standing : Type 0 where
+  pub told : Bool  -- whether the entries of its tables are known: over devices that tell their bytes
   pub batches : Batches
   pub edits : Record
   pub tree : Tree
   pub attempts : List Attempt
   pub session : Option Session
 
+-- the last number: of the batches, or of the last flush where that is greater, as over tables of which nothing is read
+abbrev pub last_of : Standing → ℕ
+last_of w = max (last_number w.batches) w.tree.shape.to
+
 -- before the first event, over batches and a record
-abbrev pub base : Column → Batches → Record → Standing
-base o bs r = record { batches = bs; edits = r; tree = tree_of o bs r; attempts = []; session = None }
+abbrev pub base : Bool → Column → Batches → Record → Standing
+base told o bs r = record { told = told; batches = bs; edits = r; tree = tree_of o bs r; attempts = []; session = None }
 
 -- a session right after its opening
 abbrev pub new_session : Standing → ℕ → Session
 new_session w log =
     record {
       log = log;
-      stable = last_number w.batches;
+      stable = last_of w;
       committed = 0;
       reserved = 0;
       freezes = 0;
@@ -72,4 +80,6 @@ new_session w log =
       held = [];
       running = [];
       faulted = None;
+      edits_made = [];
+      jobs_cut_short = [];
     }

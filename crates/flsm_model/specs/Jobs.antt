@@ -2,7 +2,6 @@
 use Rattle.std.specs.Prelude.{◌≡◌, ℕ, zero, suc, ◌+◌, ◌-◌, ◌*◌, ◌^◌, ◌<◌, min, Bool, true, ◌&&◌, ◌||◌, not, List, [], ◌∷◌, length, filter, ◌==◌, Option, None, IsSome}
 use Rattle.std.specs.List.{list_all}
 use Rattle.peb_base.specs.Keys.{Bytes}
-use Rattle.peb_base.specs.Batches.{last_number}
 use Rattle.peb_base.specs.Choice.{meets}
 use Rattle.peb_base.specs.Profiles.{Column}
 use Rattle.flsm_model.specs.declared.edit.Edit.TheVariants.{Move, Cut, Merge}
@@ -12,7 +11,7 @@ use Rattle.flsm_model.specs.declared.job.Job.{Job}
 use Rattle.flsm_model.specs.Ranges.{in_range, range_of}
 use Rattle.flsm_model.specs.Shape.{Shape, guards_at, has_number}
 use Rattle.flsm_model.specs.Fits.{fits, is_guard, lies_in}
-use Rattle.flsm_model.specs.Events.{Session, Standing}
+use Rattle.flsm_model.specs.Events.{Session, Standing, last_of}
 use Rattle.flsm_model.specs.Claims.{is_free}
 
 -- the oldest live snapshot: the least of the held numbers and the last
@@ -108,7 +107,7 @@ IsOfKind MergeJob o s n j = IsMerge o s n j
 -- the job may begin: it conflicts with no job in flight, keeps what snapshots need, and has the next table numbers
 pub record IsLawful (o : Column) (w : Standing) (n : Session) (j : Job) : Type 0 where
   pub free : is_free j n.running ≡ true
-  pub floor : j.floor ≡ floor_of n.held (last_number w.batches)
+  pub floor : j.floor ≡ floor_of n.held (last_of w)
   pub numbers : j.numbers ≡ w.tree.shape.session * 2 ^ 40 + 1 + n.reserved
   pub room : n.reserved + numbers_needed j < 2 ^ 40
   pub kind : IsOfKind j.kind o w.tree.shape n j

@@ -23,3 +23,9 @@ pub mod Made
 pub mod Picking
 pub mod Settled
 pub mod Told
+pub mod Sound
+pub mod Fronts
+pub mod Settling
+pub mod LastLevel
+pub mod Picked
+pub mod Contents

@@ -1,21 +1,22 @@
 -- An edit that a worker makes of a running job, and why it may be installed whenever the job is done.
-use Rattle.std.specs.Prelude.{◌≡◌, ℕ, ◌+◌, true, false, ◌&&◌, List, map, flat_map, nat_lt, nat_le, ◌==◌, ⊤, Some}
+use Rattle.std.specs.Prelude.{◌≡◌, ℕ, ◌+◌, Bool, true, false, ◌&&◌, List, length, map, flat_map, nat_lt, nat_le, ◌==◌, ⊤, Some}
 use Rattle.std.specs.List.{list_all, AllZip}
 use Rattle.flsm_model.specs.Compaction.{kept, pieces, some_entries}
-use Rattle.flsm_model.specs.Fits.{numbers_differ}
+use Rattle.peb_base.specs.Tables.{is_row}
+use Rattle.flsm_model.specs.Fits.{lies_in, lie_apart, range_of_row, are_choices, numbers_differ}
 use Rattle.flsm_model.specs.Trees.{Describes, contents, content_of, merged}
 use Rattle.peb_base.specs.declared.entry.Entry.{Entry}
 use Rattle.peb_base.specs.Profiles.{Column}
 use Rattle.flsm_model.specs.declared.edit.Edit.{Edit}
-use Rattle.flsm_model.specs.declared.edit.Edit.TheVariants.{Flush}
+use Rattle.flsm_model.specs.declared.edit.Edit.TheVariants.{Flush, Move, Cut, Merge}
 use Rattle.flsm_model.specs.declared.job_kind.JobKind.{JobKind}
 use Rattle.flsm_model.specs.declared.job_kind.JobKind.TheVariants.{Flush as FlushJob, Move as MoveJob, Cut as CutJob, Merge as MergeJob}
 use Rattle.flsm_model.specs.declared.job.Job.{Job}
-use Rattle.flsm_model.specs.Shape.{has_number, outputs_of}
+use Rattle.flsm_model.specs.Shape.{Shape, has_number, outputs_of}
 use Rattle.flsm_model.specs.Choices.{Chooses}
 use Rattle.peb_base.specs.Members.{IsIn}
 use Rattle.flsm_model.specs.Events.{Event, Session, Standing, Running}
-use Rattle.flsm_model.specs.Jobs.{numbers_needed}
+use Rattle.flsm_model.specs.Jobs.{numbers_needed, job_range}
 use Rattle.flsm_model.specs.Outcomes.{level_into, outcome, frozen_entries, IsEditOf, IsOutcome}
 use Rattle.flsm_model.specs.Steps.{step}
 use Rattle.flsm_model.specs.Legal.{AllowedIn}
@@ -25,12 +26,28 @@ abbrev pub StartsAt : ℕ → Edit → Type 0
 StartsAt to (Flush row from upto log chosen) = from ≡ to
 StartsAt to e = ⊤
 
--- the edit is one that the job's worker makes: rows of the job's level, with numbers of its own, that describe the outcome's contents
+-- how rows lie by the keys of a job of the kind: a Flush's entries and chosen keys, a Move's and a Cut's pieces, a Merge's one table
+abbrev pub suits : JobKind → Column → Shape → Job → Edit → Bool
+suits FlushJob o s j (Flush row from to log chosen) = nat_lt from row.first && nat_le row.last to && are_choices o s chosen
+suits MoveJob o s j (Move level floor inputs outputs) = lie_apart j.keys outputs
+suits CutJob o s j (Cut level keys inputs outputs) = list_all (λ r. lies_in (range_of_row j.keys r) r) outputs
+suits MergeJob o s j (Merge floor whole inputs outputs) = nat_le (length outputs) 1
+suits k o s j e = false
+
+-- the rows of an edit of the job are in their form, lie in the job's range, and lie there as its kind asks
+pub record RowsSuit (o : Column) (s : Shape) (j : Job) (e : Edit) : Type 0 where
+  pub form : list_all (is_row 0) (outputs_of e) ≡ true
+  pub inside : list_all (lies_in (job_range j)) (outputs_of e) ≡ true
+  pub pieces : suits j.kind o s j e ≡ true
+
+-- the edit is one that the job's worker makes: rows of the job's level, with numbers of its own, that describe the outcome's contents,
+-- or, where contents aren't known, suit the job
 pub record IsMade (o : Column) (w : Standing) (n : Session) (j : Job) (e : Edit) : Type 0 where
   pub same : IsEditOf j.kind n j e
   pub starts : StartsAt w.tree.shape.to e
-  pub holds : AllZip (Describes o) (outputs_of e) (contents o w.batches w.tree e)
-  pub chooses : Chooses o w.batches w.tree e
+  pub holds : w.told ≡ true → AllZip (Describes o) (outputs_of e) (contents o w.batches w.tree e)
+  pub chooses : w.told ≡ true → Chooses o w.batches w.tree e
+  pub rows : w.told ≡ false → RowsSuit o w.tree.shape j e
   pub levels : list_all (λ r. r.level == level_into j && r.tier == 0) (outputs_of e) ≡ true
   pub numbers : list_all (λ r. nat_le j.numbers r.number && nat_lt r.number (j.numbers + numbers_needed j)) (outputs_of e) ≡ true
   pub differ : numbers_differ (map (λ r. r.number) (outputs_of e)) ≡ true

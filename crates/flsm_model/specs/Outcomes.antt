@@ -11,11 +11,11 @@ use Rattle.flsm_model.specs.declared.edit.Edit.TheVariants.{Flush, Move, Cut, Me
 use Rattle.flsm_model.specs.declared.job_kind.JobKind.{JobKind}
 use Rattle.flsm_model.specs.declared.job_kind.JobKind.TheVariants.{Flush as FlushJob, Move as MoveJob, Cut as CutJob, Merge as MergeJob}
 use Rattle.flsm_model.specs.declared.job.Job.{Job}
-use Rattle.flsm_model.specs.Shape.{outputs_of}
-use Rattle.flsm_model.specs.Fits.{fits}
+use Rattle.flsm_model.specs.Shape.{Shape, outputs_of}
+use Rattle.flsm_model.specs.Fits.{fits, lies_in}
 use Rattle.flsm_model.specs.Choices.{Chooses}
 use Rattle.flsm_model.specs.Events.{Running, Session, Attempt, Standing}
-use Rattle.flsm_model.specs.Jobs.{numbers_needed}
+use Rattle.flsm_model.specs.Jobs.{numbers_needed, job_range}
 
 -- the level into which a job of the kind writes
 abbrev pub into_at : JobKind → Job → ℕ
@@ -65,10 +65,15 @@ IsEditOf CutJob n j (Cut level keys inputs outputs) = (level ≡ j.level) × (ke
 IsEditOf MergeJob n j (Merge floor whole inputs outputs) = (floor ≡ j.floor) × (whole ≡ j.whole) × (inputs ≡ j.inputs)
 IsEditOf k n j e = ⊥
 
--- the edit is what the job has made: it fits, its rows describe its contents, and their numbers are the job's
-pub record IsOutcome (o : Column) (w : Standing) (n : Session) (j : Job) (e : Edit) : Type 0 where
+-- the edit is one that the job may have made: it fits, its outputs lie in the job's range, and their numbers are the job's
+pub record IsFormed (o : Column) (s : Shape) (n : Session) (j : Job) (e : Edit) : Type 0 where
   pub same : IsEditOf j.kind n j e
-  pub fit : fits o w.tree.shape e ≡ true
-  pub holds : AllZip (Describes o) (outputs_of e) (contents o w.batches w.tree e)
-  pub chooses : Chooses o w.batches w.tree e
+  pub fit : fits o s e ≡ true
+  pub inside : list_all (lies_in (job_range j)) (outputs_of e) ≡ true
   pub numbers : list_all (λ r. nat_le j.numbers r.number && nat_lt r.number (j.numbers + numbers_needed j)) (outputs_of e) ≡ true
+
+-- the edit is what the job has made: where contents are known, its rows describe them, and a flush chooses their keys
+pub record IsOutcome (o : Column) (w : Standing) (n : Session) (j : Job) (e : Edit) : Type 0 where
+  pub formed : IsFormed o w.tree.shape n j e
+  pub holds : w.told ≡ true → AllZip (Describes o) (outputs_of e) (contents o w.batches w.tree e)
+  pub chooses : w.told ≡ true → Chooses o w.batches w.tree e

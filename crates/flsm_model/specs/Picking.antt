@@ -1,8 +1,7 @@
--- Which job is due: the first of those that are wanted that conflicts with no job in flight.
+-- Which job is picked: the first of those that are wanted that conflicts with no job in flight.
 use Rattle.std.specs.Prelude.{ℕ, zero, suc, ◌+◌, ◌-◌, ◌*◌, ◌^◌, Bool, true, false, ◌&&◌, not, if◌then◌else◌, List, [], ◌∷◌, ◌++◌, length, map, filter, find, nat_lt, nat_le, ◌==◌, Option, Some, None}
 use Rattle.peb_base.specs.Keys.{Bytes}
 use Rattle.peb_base.specs.Profiles.{Column}
-use Rattle.peb_base.specs.Batches.{last_number}
 use Rattle.peb_base.specs.Choice.{meets}
 use Rattle.peb_base.specs.declared.table_row.TableRow.{TableRow}
 use Rattle.flsm_model.specs.declared.job_kind.JobKind.{JobKind}
@@ -11,7 +10,7 @@ use Rattle.flsm_model.specs.declared.job.Job.{Job}
 use Rattle.flsm_model.specs.Ranges.{in_range, with_keys, range_of}
 use Rattle.flsm_model.specs.Shape.{Shape, guards_at}
 use Rattle.flsm_model.specs.Fits.{is_guard, lies_in, is_straddled, may_be_cut}
-use Rattle.flsm_model.specs.Events.{Session, Standing}
+use Rattle.flsm_model.specs.Events.{Session, Standing, last_of}
 use Rattle.flsm_model.specs.Claims.{is_free}
 use Rattle.flsm_model.specs.Jobs.{floor_of, guards_in}
 
@@ -113,8 +112,8 @@ wanted o s frozen = flush_jobs frozen ++ target_jobs o s 0 o.last_level ++ map (
 -- the job as it begins now, with the next table numbers and the oldest live snapshot
 abbrev pub beginning : Standing → Session → Job → Job
 beginning w n j =
-    record j { numbers = w.tree.shape.session * 2 ^ 40 + 1 + n.reserved; floor = floor_of n.held (last_number w.batches) }
+    record j { numbers = w.tree.shape.session * 2 ^ 40 + 1 + n.reserved; floor = floor_of n.held (last_of w) }
 
--- the job that is due, if there is one
-abbrev pub due : Column → Standing → Session → Option Job
-due o w n = find (λ j. is_free j n.running) (map (beginning w n) (wanted o w.tree.shape n.frozen))
+-- the job that is picked, if there is one
+abbrev pub picked : Column → Standing → Session → Option Job
+picked o w n = find (λ j. is_free j n.running) (map (beginning w n) (wanted o w.tree.shape n.frozen))

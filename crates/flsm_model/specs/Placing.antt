@@ -4,6 +4,7 @@ use Rattle.peb_base.specs.Batches.{Batches}
 use Rattle.peb_base.specs.Profiles.{column, Column}
 use Rattle.flsm_model.specs.Compaction.{is_put}
 use Rattle.peb_base.specs.declared.entry.Entry.{Entry}
+use Rattle.peb_base.specs.declared.table_row.TableRow.{TableRow}
 use Rattle.peb_base.specs.declared.profile.Profile.{Profile}
 use Rattle.flsm_model.specs.declared.edit.Edit.{Edit}
 use Rattle.flsm_model.specs.declared.edit.Edit.TheVariants.{Move}
@@ -12,7 +13,7 @@ use Rattle.flsm_model.specs.Shape.{Record, guards_at, has_number}
 use Rattle.flsm_model.specs.Fits.{lies_in, is_candidate, is_guard}
 use Rattle.flsm_model.specs.Trees.{Table, Tree, tree_of, installed}
 use Rattle.flsm_model.specs.Writes.{copies_in}
-use Rattle.flsm_model.specs.TrueRecord.{Falls, IsTrue}
+use Rattle.flsm_model.specs.TrueRecord.{Falls, IsTrueRecord}
 use Rattle.peb_base.specs.Members.{IsIn}
 use Rattle.flsm_model.specs.Events.{Event, Standing, base}
 use Rattle.flsm_model.specs.Steps.{run}
@@ -28,7 +29,9 @@ OrderHolds o w = Falls w.tree.tables
 
 -- each live table below level 0 lies in one guard's range of its level
 abbrev pub PlaceInGuards : Column → Standing → Type 0
-PlaceInGuards o w = (t : Table) → IsIn t w.tree.tables → 0 < t.row.level → lies_in (range_of (guards_at w.tree.shape t.row.level) t.row.smallest) t.row ≡ true
+PlaceInGuards o w =
+    (r : TableRow) → IsIn r w.tree.shape.live → 0 < r.level
+    → lies_in (range_of (guards_at w.tree.shape r.level) r.smallest) r ≡ true
 
 -- a Move finds each candidate of the next level that is the key of a put of its inputs among that level's guards
 abbrev pub CutBefore : Column → Tree → Edit → Type 0
@@ -51,5 +54,5 @@ pub record MovesAreCut (o : Column) (r : Record) (w : Standing) : Type 0 where
 -- so it is after every legal history over a true base
 abbrev pub AlwaysCut : Type 0
 AlwaysCut =
-    (p : Profile) (bs : Batches) (r : Record) (h : List Event) → IsTrue (column p) r bs → IsLegal (column p) (base (column p) bs r) h
-    → MovesAreCut (column p) r (run (column p) (base (column p) bs r) h)
+    (p : Profile) (bs : Batches) (r : Record) (h : List Event) → IsTrueRecord (column p) r bs → IsLegal (column p) (base true (column p) bs r) h
+    → MovesAreCut (column p) r (run (column p) (base true (column p) bs r) h)

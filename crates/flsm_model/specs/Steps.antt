@@ -1,5 +1,5 @@
 -- What stands after an event, and after a history.
-use Rattle.std.specs.Prelude.{ℕ, suc, ◌+◌, max, Bool, false, ◌&&◌, ◌||◌, not, if◌then◌else◌, List, [], ◌∷◌, ◌++◌, length, filter, ◌==◌, Option, Some, None, option_map}
+use Rattle.std.specs.Prelude.{ℕ, suc, ◌+◌, max, Bool, false, ◌&&◌, ◌||◌, not, if◌then◌else◌, List, [], ◌∷◌, ◌++◌, length, map, filter, ◌==◌, Option, Some, None, option_map}
 use Rattle.peb_base.specs.Batches.{batches_to}
 use Rattle.peb_base.specs.Profiles.{Column}
 use Rattle.flsm_model.specs.declared.edit.Edit.{Edit}
@@ -8,7 +8,8 @@ use Rattle.flsm_model.specs.declared.job.Job.{Job}
 use Rattle.flsm_model.specs.Trees.{installed}
 use Rattle.flsm_model.specs.Events.{Event, Opened, Commit, Synced, Look, Hold, Release, Freeze, Begin, Done, Short, JournalFault, Stop, Running, Session, Attempt, Standing, new_session}
 use Rattle.flsm_model.specs.Jobs.{numbers_needed}
-use Rattle.flsm_model.specs.Outcomes.{attempts_of}
+use Rattle.flsm_model.specs.Outcomes.{level_into, attempts_of}
+use Rattle.flsm_model.specs.Ledgers.{Shorts}
 
 -- ---- jobs in flight
 
@@ -24,6 +25,10 @@ without_job rs actor = filter (λ r. not (r.0 == actor)) rs
 -- the jobs of an actor
 abbrev pub running_of : ℕ → Session → List Running
 running_of actor s = filter (λ r. r.0 == actor) s.running
+
+-- these jobs, each cut short after so many bytes
+abbrev pub shorts_of : ℕ → List Running → Shorts
+shorts_of bytes rs = map (λ r. (level_into r.1, bytes)) rs
 
 -- ---- snapshots
 
@@ -78,9 +83,16 @@ step o w (Freeze n) =
 step o w (Begin actor job) =
     on_session (λ s. record s { running = (actor, job) ∷ s.running; reserved = s.reserved + numbers_needed job }) w
 step o w (Done actor e) =
-    on_session (λ s. record s { running = without_job s.running actor; frozen = flushed e s.frozen }) (edited o w e)
+    on_session (λ s. record s {
+      running = without_job s.running actor;
+      frozen = flushed e s.frozen;
+      edits_made = s.edits_made ++ e ∷ [];
+    }) (edited o w e)
 step o w (Short actor cause bytes) =
-    on_session (λ s. record s { running = without_job s.running actor }) (record w { attempts = tried o w w.session (running_of actor) })
+    on_session (λ s. record s {
+      running = without_job s.running actor;
+      jobs_cut_short = s.jobs_cut_short ++ shorts_of bytes (running_of actor s);
+    }) (record w { attempts = tried o w w.session (running_of actor) })
 step o w JournalFault = on_session (λ s. record s { faulted = Some s.running }) w
 step o w (Stop n e) =
     record (edited_by o w e) { batches = batches_to n w.batches; attempts = tried o w w.session (λ s. s.running); session = None }

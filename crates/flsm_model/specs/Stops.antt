@@ -1,15 +1,26 @@
 -- What a history and a stop leave.
-use Rattle.std.specs.Prelude.{◌≡◌, ℕ, suc, ◌+◌, ◌*◌, ◌^◌, ◌<◌, ◌≤◌, None}
+use Rattle.std.specs.Prelude.{◌≡◌, ℕ, suc, ◌+◌, ◌*◌, ◌^◌, ◌<◌, ◌≤◌, true, ◌++◌, Some, None}
 use Rattle.peb_base.specs.Profiles.{Column}
+use Rattle.flsm_model.specs.Shape.{Record, shape_of}
+use Rattle.flsm_model.specs.Fits.{is_legal_record}
 use Rattle.flsm_model.specs.Trees.{tree_of}
-use Rattle.flsm_model.specs.TrueRecord.{IsTrue}
-use Rattle.flsm_model.specs.Events.{Opened, Standing}
+use Rattle.flsm_model.specs.TrueRecord.{IsTrueRecord}
+use Rattle.flsm_model.specs.Events.{Opened, Session, Standing}
 use Rattle.flsm_model.specs.Legal.{Allowed}
 
 -- the record is true of the batches, and the tree is the one that it spells
 pub record RecordIsTrue (o : Column) (w : Standing) : Type 0 where
-  pub holds : IsTrue o w.edits w.batches
+  pub holds : IsTrueRecord o w.edits w.batches
   pub tree : w.tree ≡ tree_of o w.batches w.edits
+
+-- the record is legal, and the shape is the one that it spells
+pub record RecordIsLegal (o : Column) (w : Standing) : Type 0 where
+  pub legal : is_legal_record o w.edits ≡ true
+  pub shape : w.tree.shape ≡ shape_of o w.edits
+
+-- the record ends with what the open session added after its opening
+abbrev pub EndsWithSession : Column → Standing → Type 0
+EndsWithSession o w = (n : Session) → w.session ≡ Some n → (before : Record) × (w.edits ≡ before ++ n.edits_made)
 
 -- the next session may be opened, with any log from the last flush's to the session's first
 pub record OpensNext (o : Column) (w : Standing) : Type 0 where

@@ -54,7 +54,7 @@ DescribedFrom o bs t (e ∷ es) =
     AllZip (Describes o) (outputs_of e) (contents o bs t e) × Chooses o bs t e × DescribedFrom o bs (installed o bs t e) es
 
 -- the record is true of the batches
-pub record IsTrue (o : Column) (r : Record) (bs : Batches) : Type 0 where
+pub record IsTrueRecord (o : Column) (r : Record) (bs : Batches) : Type 0 where
   pub legal : is_legal_record o r ≡ true
   pub ordered : are_in_order bs ≡ true
   pub sessions : session_of (last_number bs) ≤ (shape_of o r).session

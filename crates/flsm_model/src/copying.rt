@@ -1,4 +1,4 @@
-//! Copies of keys and rows.
+//! Copies of lists of keys, rows and chosen keys.
 
 ghost use Rattle.std.specs.Prelude.{◌≡◌, ◌++◌, IfOk, OnOk, OnErr};
 
@@ -6,37 +6,12 @@ use crate::chosen::Chosen;
 use peb_base::{Key, Memory, TableRow};
 use std::alloc::Global;
 
-/// A copy of a key.
-pub fn copy_key(alloc: Global, key: &Key) -> Result<Key, Memory>
-    ensures { IfOk result (λ copy. copy ≡ key.now) }
-{
-    Key::new(alloc, key.bytes()).map_err(|_| Memory)
-}
-
-/// A copy of a row.
-pub fn copy_row(alloc: Global, row: &TableRow) -> Result<TableRow, Memory>
-    ensures { IfOk result (λ copy. copy ≡ row.now) }
-{
-    Ok(TableRow {
-        number: row.number,
-        level: row.level,
-        tier: row.tier,
-        smallest: copy_key(alloc, &row.smallest)?,
-        largest: copy_key(alloc, &row.largest)?,
-        entries: row.entries,
-        raw: row.raw,
-        first: row.first,
-        last: row.last,
-        bytes: row.bytes,
-    })
-}
-
 /// A copy of a chosen key.
 pub fn copy_chosen(alloc: Global, chosen: &Chosen) -> Result<Chosen, Memory>
     ensures { IfOk result (λ copy. copy ≡ chosen.now) }
 {
     Ok(Chosen {
-        key: copy_key(alloc, &chosen.key)?,
+        key: chosen.key.copy(alloc)?,
         level: chosen.level,
     })
 }
@@ -47,7 +22,7 @@ pub fn copy_keys(alloc: Global, keys: &[Key]) -> Result<Vec<Key>, Memory>
 {
     let mut copies = Vec::new(alloc);
     for key in keys {
-        copies.push(copy_key(alloc, key)?)?;
+        copies.push(key.copy(alloc)?)?;
     }
     Ok(copies)
 }
@@ -58,7 +33,7 @@ pub fn copy_rows(alloc: Global, rows: &[TableRow]) -> Result<Vec<TableRow>, Memo
 {
     let mut copies = Vec::new(alloc);
     for row in rows {
-        copies.push(copy_row(alloc, row)?)?;
+        copies.push(row.copy(alloc)?)?;
     }
     Ok(copies)
 }

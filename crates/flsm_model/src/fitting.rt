@@ -22,7 +22,7 @@ use crate::rows::{
     is_some_list, is_straddled, lie_apart, lie_in, numbers_differ,
 };
 use crate::searches::{
-    has_key, has_number, is_below, is_chosen, is_live, keys_ascend, numbers_ascend, rows_ascend,
+    has_key, has_number, is_chosen, is_live, keys_ascend, numbers_ascend, rows_ascend,
 };
 use crate::shape::Shape;
 use peb_base::{Key, Memory, TableRow, bits, level_of};

@@ -1,6 +1,6 @@
 //! What a shape becomes by an edit.
 
-ghost use Rattle.std.specs.Prelude.{◌≡◌, ◌≤◌, ℕ, ◌-◌, vec_len, vec_capacity, ◌++◌, [], ◌∷◌, map, set, OnOk, OnErr, IfOk, if◌then◌else◌};
+ghost use Rattle.std.specs.Prelude.{◌≡◌, ◌≤◌, ℕ, ◌-◌, vec_len, vec_capacity, ◌++◌, [], ◌∷◌, map, take, set, OnOk, OnErr, IfOk, if◌then◌else◌};
 ghost use Rattle.peb_base.specs.Profiles.{column};
 ghost use Rattle.flsm_model.specs.Ranges as ranges;
 ghost use Rattle.flsm_model.specs.Shape as shapes;
@@ -18,25 +18,25 @@ use peb_base::{Key, List, Memory, TableRow};
 use std::alloc::Global;
 use std::mem;
 
-/// The numbers with those of the rows behind them.
-fn with_numbers(alloc: Global, numbers: &[u64], rows: &[TableRow]) -> Result<Vec<u64>, Memory>
-    ensures { IfOk result (λ all. all.items ≡ numbers.now ++ map (λ row. row.number) rows.now) }
+/// The numbers of the rows.
+fn numbers_of(alloc: Global, rows: &[TableRow]) -> Result<Vec<u64>, Memory>
+    ensures { IfOk result (λ numbers. numbers.items ≡ map (λ row. row.number) rows.now) }
 {
-    let mut all = Vec::from_slice(alloc, numbers)?;
+    let mut numbers = Vec::new(alloc);
     for row in rows {
-        all.push(row.number)?;
+        numbers.push(row.number)?;
     }
-    Ok(all)
+    Ok(numbers)
 }
 
-/// Copies of the chosen keys, the later ones behind the others.
-fn with_chosen(alloc: Global, chosen: &[Chosen], later: &[Chosen]) -> Result<Vec<Chosen>, Memory>
-    ensures { IfOk result (λ all. all.items ≡ chosen.now ++ later.now) }
+/// Puts the later items behind the others. An error changes nothing.
+fn append<X>(items: &mut Vec<X>, later: &mut Vec<X>) -> Result<(), Memory>
+    ensures ok { OnOk result (items.new.items ≡ items.old.items ++ later.old.items) }
+    ensures err { OnErr result (items.new.items ≡ items.old.items) }
 {
-    let mut all = copy_all_chosen(alloc, chosen)?;
-    let mut later = copy_all_chosen(alloc, later)?;
-    all.append(&mut later)?;
-    Ok(all)
+    items.reserve(later.len())?;
+    items.append(later)?;
+    Ok(())
 }
 
 /// Takes the rows of these numbers away.
@@ -73,6 +73,56 @@ fn set_guards(guards: &mut Vec<List<Key>>, place: usize, keys: List<Key>)
 }
 
 impl Shape {
+    /// Puts the numbers of the rows behind those that are used. An error changes nothing.
+    fn use_numbers(&mut self, rows: &[TableRow]) -> Result<(), Memory>
+        ensures ok { OnOk result (told self.new ≡ record (told self.old) { used = self.old.used ++ map (λ row. row.number) rows.now }) }
+        ensures err { OnErr result (told self.new ≡ told self.old) }
+        ensures options { self.new.options ≡ self.old.options }
+    {
+        let alloc = self.alloc();
+        let mut later = numbers_of(alloc, rows)?;
+        let mut used = mem::replace(&mut self.used, List::of(Vec::new(alloc))).into_vec();
+        let done = append(&mut used, &mut later);
+        self.used = List::of(used);
+        done
+    }
+
+    /// Keeps only the first of the numbers that are used.
+    fn free_numbers(&mut self, length: usize)
+        ensures shape { told self.new ≡ record (told self.old) { used = take length self.old.used } }
+        ensures options { self.new.options ≡ self.old.options }
+    {
+        let alloc = self.alloc();
+        let mut used = mem::replace(&mut self.used, List::of(Vec::new(alloc))).into_vec();
+        used.truncate(length);
+        self.used = List::of(used);
+    }
+
+    /// Puts copies of the keys behind those that were chosen. An error changes nothing.
+    fn choose(&mut self, later: &[Chosen]) -> Result<(), Memory>
+        ensures ok { OnOk result (told self.new ≡ record (told self.old) { chosen = self.old.chosen ++ later.now }) }
+        ensures err { OnErr result (told self.new ≡ told self.old) }
+        ensures options { self.new.options ≡ self.old.options }
+    {
+        let alloc = self.alloc();
+        let mut later = copy_all_chosen(alloc, later)?;
+        let mut chosen = mem::replace(&mut self.chosen, List::of(Vec::new(alloc))).into_vec();
+        let done = append(&mut chosen, &mut later);
+        self.chosen = List::of(chosen);
+        done
+    }
+
+    /// Keeps only the first of the keys that were chosen.
+    fn forget(&mut self, length: usize)
+        ensures shape { told self.new ≡ record (told self.old) { chosen = take length self.old.chosen } }
+        ensures options { self.new.options ≡ self.old.options }
+    {
+        let alloc = self.alloc();
+        let mut chosen = mem::replace(&mut self.chosen, List::of(Vec::new(alloc))).into_vec();
+        chosen.truncate(length);
+        self.chosen = List::of(chosen);
+    }
+
     /// Takes the inputs away and the outputs in. An error changes nothing.
     fn exchange(&mut self, inputs: &[u64], outputs: &[TableRow]) -> Result<(), Memory>
         ensures ok { OnOk result (told self.new ≡ shapes.after_exchange (told self.old) inputs.now outputs.now) }
@@ -81,13 +131,15 @@ impl Shape {
     {
         let alloc = self.alloc();
         let added = copy_rows(alloc, outputs)?;
-        let used = with_numbers(alloc, self.used.items(), outputs)?;
+        let known = self.used.items().len();
+        self.use_numbers(outputs)?;
         let mut rows = mem::replace(&mut self.live, List::of(Vec::new(alloc))).into_vec();
         let done = exchange_rows(&mut rows, inputs, added);
         self.live = List::of(rows);
-        done?;
-        self.used = List::of(used);
-        Ok(())
+        if done.is_err() {
+            self.free_numbers(known);
+        }
+        done
     }
 
     /// Puts these guards in place of the ones of a level.
@@ -121,11 +173,15 @@ impl Shape {
         ensures err { OnErr result (told self.new ≡ told self.old) }
         ensures options { self.new.options ≡ self.old.options }
     {
-        let chosen = with_chosen(self.alloc(), self.chosen.items(), chosen)?;
-        self.exchange(&[], std::slice::from_ref(row))?;
+        let known = self.chosen.items().len();
+        self.choose(chosen)?;
+        let done = self.exchange(&[], std::slice::from_ref(row));
+        if done.is_err() {
+            self.forget(known);
+            return done;
+        }
         self.to = to;
         self.log = log;
-        self.chosen = List::of(chosen);
         Ok(())
     }
 

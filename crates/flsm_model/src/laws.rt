@@ -4,13 +4,19 @@
 //! them. Jobs in flight, jobs that were cut short, faults of the journal and stops are all part of such a history. Since each front of a
 //! legal history is legal, a law holds at every moment.
 
-ghost use Rattle.flsm_model.specs.Legal.{Always};
+ghost use Rattle.flsm_model.specs.Legal.{Always, AlwaysFormed};
 ghost use Rattle.flsm_model.specs.Placing.{OnePlace, OrderHolds, PlaceInGuards, AlwaysCut};
 ghost use Rattle.flsm_model.specs.Bounds.{WrittenOnce, RecordBound};
 ghost use Rattle.flsm_model.specs.Reading.{MapHolds, MapShows};
-ghost use Rattle.flsm_model.specs.Stops.{RecordIsTrue, StopLeavesBase};
+ghost use Rattle.flsm_model.specs.Stops.{RecordIsLegal, EndsWithSession, RecordIsTrue, StopLeavesBase};
 ghost use Rattle.flsm_model.specs.Undisturbed.{JobsUndisturbed};
 ghost use Rattle.flsm_model.specs.Made.{OutcomesFit, OutcomesStay};
+ghost use Rattle.flsm_model.specs.LastLevel.{WrittenByMerges};
+ghost use Rattle.flsm_model.specs.Fronts.{EmptyIsTrue, FrontsAreLegal, MarksInOrder};
+ghost use Rattle.flsm_model.specs.Settling.{EditsSettle, MeasureFalls, OutcomesConserve};
+ghost use Rattle.flsm_model.specs.Picked.{PickedIsLawful, IdleHasRoom};
+ghost use Rattle.flsm_model.specs.Contents.{TablesStand, NewestIsShown};
+ghost use Rattle.flsm_model.specs.Sound.{RecordsSound, RecordsNested, RecordsBounded};
 
 /// Each entry is in one live table at most.
 pub fn law_place()
@@ -25,7 +31,7 @@ pub fn law_order()
 /// Each live table below level 0 lies in one guard's range of its level, and a compaction's inputs have no put of a candidate of the next
 /// level that isn't a guard there.
 pub fn law_guards()
-    ensures placed { Always PlaceInGuards }
+    ensures placed { AlwaysFormed PlaceInGuards }
     ensures cut { AlwaysCut }
 {}
 
@@ -36,15 +42,20 @@ pub fn law_map()
     ensures rows { Always MapShows }
 {}
 
-/// Above the last level each entry is written once, once more for each new guard inside its table, and once for each attempt.
+/// Above the last level each entry is written once, once more for each new guard inside its table, and once for each attempt. Further
+/// writings into the last level are those of Merges.
 pub fn law_bound()
     ensures history { Always WrittenOnce }
     ensures edits { RecordBound }
+    ensures last { Always WrittenByMerges }
 {}
 
-/// The record is true of the batches, and the tree is the one that the record spells.
+/// The record is legal, and true of the batches where contents are known; the tree is the one that the record spells. It ends with the
+/// edits that the open session made.
 pub fn law_record()
-    ensures { Always RecordIsTrue }
+    ensures legal { AlwaysFormed RecordIsLegal }
+    ensures holds { Always RecordIsTrue }
+    ensures session { AlwaysFormed EndsWithSession }
 {}
 
 /// What stands where no session is open is a true base, and below the limit of sessions the next one may be opened.
@@ -54,15 +65,61 @@ pub fn law_stop()
 
 /// No claims of two jobs in flight conflict, and each such job still has its range, its inputs, its keys and its numbers.
 pub fn law_jobs()
-    ensures { Always JobsUndisturbed }
+    ensures { AlwaysFormed JobsUndisturbed }
 {}
 
 /// What a job in flight makes fits the record, whatever other jobs did since it began.
 pub fn law_outcomes()
-    ensures { Always OutcomesFit }
+    ensures { AlwaysFormed OutcomesFit }
 {}
 
 /// The outcome of each job in flight is what the job makes of its inputs by its own keys, and stays so while the job is in flight.
 pub fn law_stays()
     ensures { Always OutcomesStay }
+{}
+
+/// Each live table of a legal record lies in one guard of its level, and no two have one number.
+pub fn law_shape()
+    ensures sound { RecordsSound }
+    ensures nested { RecordsNested }
+    ensures bounded { RecordsBounded }
+{}
+
+/// Where nothing is stored a history begins, and each front of a legal history is legal.
+pub fn law_fronts()
+    ensures empty { EmptyIsTrue }
+    ensures fronts { FrontsAreLegal }
+{}
+
+/// What was flushed is stable, what is frozen lies above it and is stable too, and nothing above the last number is.
+pub fn law_marks()
+    ensures { AlwaysFormed MarksInOrder }
+{}
+
+/// An edit that has work, and writes no more entries than it takes, leaves less to do until the store is settled: fewer levels to go,
+/// or else fewer candidates without a guard, or else fewer tables in the last level. Outcomes write no more than their jobs take.
+pub fn law_settles()
+    ensures edits { EditsSettle }
+    ensures measure { MeasureFalls }
+    ensures outcomes { Always OutcomesConserve }
+{}
+
+/// A job that is picked may begin, if the session has table numbers left for it.
+pub fn law_due()
+    ensures { AlwaysFormed PickedIsLawful }
+{}
+
+/// Where no job is in flight and none is picked, nothing is frozen, and level 0 and each guard have room.
+pub fn law_idle()
+    ensures { AlwaysFormed IdleHasRoom }
+{}
+
+/// The rows of the live tables are the live ones, in their order; each tells of its table, and each table's entries ascend.
+pub fn law_tables()
+    ensures { Always TablesStand }
+{}
+
+/// A key's value in what entries show at a number is that of its newest entry at or below it.
+pub fn law_lookup()
+    ensures { NewestIsShown }
 {}

@@ -4,9 +4,8 @@ ghost use Rattle.std.specs.Prelude.{◌≡◌, ◌≤◌, MatchResult, OnOk, IfO
 ghost use Rattle.std.specs.List.{insert};
 ghost use Rattle.flsm_model.specs.Ranges as ranges;
 
-use crate::copying::{copy_key, copy_keys};
-use crate::searches::is_below;
-use peb_base::{Key, Memory};
+use crate::copying::copy_keys;
+use peb_base::{Key, Memory, is_below};
 use std::alloc::Global;
 
 /// The place of the key among guards: Ok where it is one of them, Err where it belongs in front of this place.
@@ -44,7 +43,7 @@ pub fn with_keys(alloc: Global, keys: &[Key], guards: &[Key]) -> Result<Vec<Key>
     let mut left = keys.len();
     while left > 0 {
         left -= 1;
-        add_key(&mut merged, copy_key(alloc, &keys[left])?)?;
+        add_key(&mut merged, keys[left].copy(alloc)?)?;
     }
     Ok(merged)
 }

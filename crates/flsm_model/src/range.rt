@@ -5,8 +5,7 @@ ghost use Rattle.std.specs.Option.{option_copied};
 ghost use Rattle.flsm_model.specs.Ranges as ranges;
 ghost use Rattle.flsm_model.specs.Fits as fits;
 
-use crate::searches::is_below;
-use peb_base::{Key, TableRow};
+use peb_base::{Key, TableRow, is_below};
 
 /// The range of a guard: from `lo` on, which is empty for the sentinel, and below `hi`, if there is one.
 #[derive(Clone, Copy)]

@@ -12,8 +12,8 @@ ghost use Rattle.flsm_model.specs.Fits as fits;
 
 use crate::chosen::Chosen;
 use crate::range::Range;
-use crate::searches::{has_number, is_below, is_live};
-use peb_base::{Key, TableRow};
+use crate::searches::{has_number, is_live};
+use peb_base::{Key, TableRow, is_below};
 
 /// Whether there is an element.
 pub fn is_some_list<X>(items: &[X]) -> bool

@@ -2,20 +2,12 @@
 
 ghost use Rattle.std.specs.Prelude.{◌≡◌, ◌<◌, map, nat_lt, drop};
 ghost use Rattle.std.specs.List.{list_all, zip};
-ghost use Rattle.peb_base.specs.Keys.{key_lt};
 ghost use Rattle.flsm_model.specs.Shape as shapes;
 ghost use Rattle.flsm_model.specs.Fits as fits;
 ghost use Rattle.flsm_model.specs.Ranges as ranges;
 
 use crate::chosen::Chosen;
-use peb_base::{Key, TableRow};
-
-/// Whether a key comes before another one.
-pub fn is_below(a: &[u8], b: &[u8]) -> bool
-    ensures { result ≡ key_lt a.now b.now }
-{
-    a.cmp(b).is_lt()
-}
+use peb_base::{Key, TableRow, is_below};
 
 /// Whether the number is one of these.
 pub fn has_number(number: u64, numbers: &[u64]) -> bool

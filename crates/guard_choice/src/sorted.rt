@@ -2,12 +2,11 @@
 
 ghost use Rattle.std.specs.Prelude.{◌≡◌, ◌<◌, ◌≤◌, ◌+◌, IfOk, length, map, filter, vec_len, vec_capacity, nat_le};
 ghost use Rattle.std.specs.Option.{option_copied};
-ghost use Rattle.peb_base.specs.Keys.{key_lt};
 ghost use Rattle.guard_choice.specs.Candidates.{Ascend};
 ghost use Rattle.guard_choice.specs.Sorted.{end_in, place_in, with_chosen};
 
 use flsm_model::Chosen;
-use peb_base::{Key, Memory};
+use peb_base::{Key, Memory, is_below};
 use std::alloc::Global;
 
 /// How many of the keys come before this one.
@@ -16,7 +15,7 @@ pub fn place_of(chosen: &[Chosen], key: &[u8]) -> usize
     ensures place { result ≡ place_in key.now chosen.now }
     ensures within { result ≤ length chosen.now }
 {
-    chosen.partition_point(|c| is_before(c.key.bytes(), key))
+    chosen.partition_point(|c| is_below(c.key.bytes(), key))
 }
 
 /// How many of the keys come before the end of a range, if it has one.
@@ -29,12 +28,6 @@ pub fn end_of(chosen: &[Chosen], hi: Option<&Key>) -> usize
         Some(hi) => place_of(chosen, hi.bytes()),
         None => chosen.len(),
     }
-}
-
-fn is_before(a: &[u8], b: &[u8]) -> bool
-    ensures { result ≡ key_lt a.now b.now }
-{
-    a.cmp(b).is_lt()
 }
 
 /// Puts one more key among them, for which there is room.
@@ -63,7 +56,7 @@ pub fn copies(alloc: Global, chosen: &[Chosen]) -> Result<Vec<Chosen>, Memory>
     let mut copies = Vec::new(alloc);
     for c in chosen {
         copies.push(Chosen {
-            key: copy_of(alloc, &c.key)?,
+            key: c.key.copy(alloc)?,
             level: c.level,
         })?;
     }
@@ -77,14 +70,8 @@ pub fn keys_to(alloc: Global, chosen: &[Chosen], level: u8) -> Result<Vec<Key>, 
     let mut keys = Vec::new(alloc);
     for c in chosen {
         if c.level <= level {
-            keys.push(copy_of(alloc, &c.key)?)?;
+            keys.push(c.key.copy(alloc)?)?;
         }
     }
     Ok(keys)
-}
-
-fn copy_of(alloc: Global, key: &Key) -> Result<Key, Memory>
-    ensures { IfOk result (λ copy. copy ≡ key.now) }
-{
-    Key::new(alloc, key.bytes()).map_err(|_| Memory)
 }

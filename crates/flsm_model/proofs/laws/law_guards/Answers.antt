@@ -1,4 +1,4 @@
-use Rattle.flsm_model.proofs.Base.{place_in_guards}
+use Rattle.flsm_model.proofs.Whole.{place_in_guards}
 use Rattle.flsm_model.proofs.Committed.{always_cut}
 use Rattle.flsm_model.proofs.laws.law_guards.Goals as goal
 

@@ -1,0 +1,6 @@
+use Rattle.flsm_model.proofs.Settling.{edits_settle, measure_falls}
+use Rattle.flsm_model.proofs.Conserved.{outcomes_conserve}
+use Rattle.flsm_model.proofs.laws.law_settles.Goals as goal
+
+pub returns : goal.returns
+returns c = record { edits = edits_settle; measure = measure_falls; outcomes = outcomes_conserve }

@@ -1,0 +1,6 @@
+pub mod WorkedSamples
+pub mod WorkedTiny
+pub mod WorkedParts
+pub mod WorkedLegal0
+pub mod WorkedLegal1
+pub mod WorkedDeep0
