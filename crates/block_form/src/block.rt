@@ -12,7 +12,7 @@ ghost use Rattle.block_form.specs.Walks.{entries_from};
 use crate::block_fault::BlockFault;
 use crate::parts::parts_of_block;
 use crate::reading::count_of;
-use crate::scan::numbers_in;
+use crate::scan::{entry_at, numbers_in};
 use crate::stepped::{peek, restart_at, step};
 use byteorder::{BigEndian, ByteOrder};
 use peb_base::{EntryRef, KeyBuf, Number, is_before};
@@ -221,7 +221,7 @@ impl Block<'_> {
         ensures { slice_get self.now place ≡ Some (entry_of result) }
     {
         let at = self.go(place, key_out);
-        self.entry_here(place, at, key_out.bytes())
+        entry_at(self.entries, self.count, place, at, key_out.bytes())
     }
 
     /// Where the entry behind the one at a place begins, which begins here itself; both are counted from the first entry.
@@ -271,20 +271,14 @@ impl Block<'_> {
     }
 }
 
-impl Block<'_> {
+impl<'a> Block<'a> {
     /// The entry at a place below the number of entries, which begins here and of which this is the key.
-    pub fn entry_here<'k>(&'k self, place: usize, at: usize, key: &'k [u8]) -> EntryRef<'k>
+    pub fn entry_here(&self, place: usize, at: usize, key: &'a [u8]) -> EntryRef<'a>
         requires place { place < length self.now }
         requires at { at ≡ offset_of place self.now }
         requires key { (e : Entry) → slice_get self.now place ≡ Some e → key.now ≡ e.key }
         ensures { slice_get self.now place ≡ Some (entry_of result) }
     {
-        let rest = &self.entries[at..];
-        let found = peek(rest);
-        EntryRef {
-            key,
-            number: found.number,
-            change: found.change,
-        }
+        entry_at(self.entries, self.count, place, at, key)
     }
 }
