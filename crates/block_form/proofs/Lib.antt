@@ -4,3 +4,4 @@ pub mod Scans
 pub mod Spelling
 pub mod Spots
 pub mod Walks
+mod Restarts

@@ -1,25 +1,32 @@
 //! Blocks that were read.
 
-ghost use Rattle.std.specs.Prelude.{◌≡◌, ◌<◌, ◌≤◌, ◌+◌, List, Some, length, slice_get, IfOk, IsErr};
+ghost use Rattle.std.specs.Prelude.{◌≡◌, ◌⊎◌, ◌<◌, ◌≤◌, ◌+◌, ◌%◌, [], true, List, Some, length, slice_get, IfOk, IsErr};
 ghost use Rattle.peb_base.specs.declared.entry.Entry.{Entry};
+ghost use Rattle.peb_base.specs.Entries.{comes_before};
 ghost use Rattle.peb_base.specs.EntryRefs.{entry_of};
 ghost use Rattle.peb_base.specs.Tables.{least_number, greatest_number};
-ghost use Rattle.block_form.specs.Form.{IsBlock};
+ghost use Rattle.block_form.specs.Form.{IsBlock, block_restarts, places_bytes};
 ghost use Rattle.block_form.specs.Spots.{offset_of};
+ghost use Rattle.block_form.specs.Walks.{entries_from};
 
 use crate::block_fault::BlockFault;
 use crate::parts::parts_of_block;
 use crate::reading::count_of;
-use crate::scan::{entry_in, entry_under, found_in, numbers_in, place_of};
-use crate::stepped::{peek, step};
-use peb_base::{EntryRef, KeyBuf, Number};
+use crate::scan::{entry_at, numbers_in};
+use crate::stepped::{peek, restart_at, step};
+use byteorder::{BigEndian, ByteOrder};
+use peb_base::{EntryRef, KeyBuf, Number, is_before};
 use std::marker::Model;
 
 /// A block that was read; contracts see the list of its entries.
 #[derive(Drop)]
 pub struct Block<'a> {
     entries: &'a [u8],
+    /// The places of the restarts, four bytes each.
+    places: &'a [u8],
     count: usize,
+    ghost small: { length entries.now ≤ 40960 },
+    ghost placed: { places.now ≡ places_bytes (block_restarts (entries_from count [] entries.now)) },
 }
 
 impl<'a> Model for Block<'a> {
@@ -52,7 +59,11 @@ impl<'a> Block<'a> {
         if count == 0 {
             return Err(BlockFault::Form);
         }
-        Ok(Block { entries, count })
+        Ok(Block {
+            entries,
+            places,
+            count,
+        })
     }
 
     /// Reads a block again that is known to be one, of so many entries, without a walk over its bytes: its length and the
@@ -64,8 +75,12 @@ impl<'a> Block<'a> {
         let Some(parts) = parts_of_block(bytes) else {
             unreachable!();
         };
-        let (entries, _) = parts;
-        Block { entries, count }
+        let (entries, places) = parts;
+        Block {
+            entries,
+            places,
+            count,
+        }
     }
 }
 
@@ -81,9 +96,123 @@ impl Block<'_> {
 
     /// The place of the first entry at or after this key and number, in entry order, or the number of entries.
     pub fn find(&self, key: &[u8], number: Number) -> usize
+        requires { 0 < length self.now }
         ensures { result ≡ first_from key.now number self.now }
     {
-        place_of(self.entries, self.count, key, number.packed())
+        let mut room = KeyBuf::new();
+        let (place, _) = self.seek(key, number, &mut room);
+        place
+    }
+
+    /// Goes to the first entry at or after this key and number, in entry order, or behind the last: gives its place and where it
+    /// begins, and leaves its key. It halves over the restarts, and then looks at sixteen entries at most.
+    pub fn seek(&self, key: &[u8], number: Number, key_out: &mut KeyBuf) -> (usize, usize)
+        requires { 0 < length self.now }
+        ensures place { result.0 ≡ first_from key.now number self.now }
+        ensures at { result.1 ≡ offset_of result.0 self.now }
+        ensures key { (e : Entry) → slice_get self.now result.0 ≡ Some e → key_out.new ≡ e.key }
+    {
+        let mut place = self.restart_before(key, number.packed());
+        let mut at = self.go_to_restart(place, key_out);
+        'scan: while place < self.count {
+            if !self.is_passed(place, at, key_out.bytes(), key, number.packed()) {
+                return (place, at);
+            }
+            at = self.step(place, at, key_out);
+            place += 1;
+        }
+        (place, at)
+    }
+
+    /// The place of the last restart whose entry comes before this key and number, or of the first restart.
+    fn restart_before(&self, key: &[u8], number: u64) -> usize
+        requires { 0 < length self.now }
+        ensures restart { result % 16 ≡ 0 }
+        ensures inside { result < length self.now }
+        ensures passed { (e : Entry) → slice_get self.now result ≡ Some e → (result ≡ 0) ⊎ (comes_before e.key e.number key.now number ≡ true) }
+    {
+        let mut low = 0;
+        let mut high = (self.count - 1) / 16 + 1;
+        'halve: while high - low > 1 {
+            let middle = low + (high - low) / 2;
+            if self.restart_is_passed(16 * middle, key, number) {
+                low = middle;
+            } else {
+                high = middle;
+            }
+        }
+        16 * low
+    }
+
+    /// Whether the entry at a restart comes before this key and number.
+    fn restart_is_passed(&self, place: usize, key: &[u8], number: u64) -> bool
+        requires restart { place % 16 ≡ 0 }
+        requires place { place < length self.now }
+        ensures { (e : Entry) → slice_get self.now place ≡ Some e → result ≡ comes_before e.key e.number key.now number }
+    {
+        let (here, above) = self.restart(place, self.offset_of_restart(place));
+        is_before(here, above, key, number)
+    }
+
+    /// Where the entry at a restart begins, counted from the first entry.
+    fn offset_of_restart(&self, place: usize) -> usize
+        requires restart { place % 16 ≡ 0 }
+        requires place { place < length self.now }
+        ensures { result ≡ offset_of place self.now }
+    {
+        let start = place / 16 * 4;
+        (BigEndian::read_u32(&self.places[start..]) - 1) as usize
+    }
+
+    /// The key and the number of the entry at a restart, which begins here.
+    fn restart(&self, place: usize, at: usize) -> (&[u8], u64)
+        requires restart { place % 16 ≡ 0 }
+        requires place { place < length self.now }
+        requires at { at ≡ offset_of place self.now }
+        ensures entry { (e : Entry) → slice_get self.now place ≡ Some e → (result.0.now ≡ e.key) × (result.1 ≡ e.number) }
+        ensures short { length result.0.now ≤ 1024 }
+    {
+        let rest = &self.entries[at..];
+        restart_at(rest)
+    }
+
+    /// Goes to the entry at a restart: gives where it begins, and leaves its key.
+    fn go_to_restart(&self, place: usize, key: &mut KeyBuf) -> usize
+        requires restart { place % 16 ≡ 0 }
+        requires place { place < length self.now }
+        ensures at { result ≡ offset_of place self.now }
+        ensures key { (e : Entry) → slice_get self.now place ≡ Some e → key.new ≡ e.key }
+    {
+        let at = self.offset_of_restart(place);
+        let (here, _) = self.restart(place, at);
+        key.put(0, here);
+        at
+    }
+
+    /// Whether the entry at a place, which begins here and of which this is the key, comes before another key and number.
+    fn is_passed(&self, place: usize, at: usize, here: &[u8], key: &[u8], number: u64) -> bool
+        requires place { place < length self.now }
+        requires at { at ≡ offset_of place self.now }
+        requires key { (e : Entry) → slice_get self.now place ≡ Some e → here.now ≡ e.key }
+        ensures { (e : Entry) → slice_get self.now place ≡ Some e → result ≡ comes_before e.key e.number key.now number }
+    {
+        let rest = &self.entries[at..];
+        is_before(here, peek(rest).number, key, number)
+    }
+
+    /// Goes from the entry at a place, which begins here, to the one behind it, if there is one: gives where it begins, and leaves its key.
+    fn step(&self, place: usize, at: usize, key: &mut KeyBuf) -> usize
+        requires place { place < length self.now }
+        requires at { at ≡ offset_of place self.now }
+        requires key { (e : Entry) → slice_get self.now place ≡ Some e → key.old ≡ e.key }
+        ensures at { result ≡ offset_of (place + 1) self.now }
+        ensures key { (e : Entry) → slice_get self.now (place + 1) ≡ Some e → key.new ≡ e.key }
+    {
+        let behind = self.offset_behind(place, at);
+        if place < self.count - 1 {
+            self.key_behind(place, behind, key);
+        }
+        behind
     }
 
     /// The entry at a place below the number of entries, with its value lent and its key put together in `key_out`.
@@ -91,14 +220,8 @@ impl Block<'_> {
         requires { place < length self.now }
         ensures { slice_get self.now place ≡ Some (entry_of result) }
     {
-        entry_in(self.entries, self.count, place, key_out)
-    }
-    /// Puts the key of the entry at a place below the number of entries together in `key_out`.
-    pub fn key_at(&self, place: usize, key_out: &mut KeyBuf)
-        requires { place < length self.now }
-        ensures { (e : Entry) → slice_get self.now place ≡ Some e → key_out.new ≡ e.key }
-    {
-        found_in(self.entries, self.count, place, key_out);
+        let at = self.go(place, key_out);
+        entry_at(self.entries, self.count, place, at, key_out.bytes())
     }
 
     /// Where the entry behind the one at a place begins, which begins here itself; both are counted from the first entry.
@@ -122,17 +245,17 @@ impl Block<'_> {
         step(key, rest);
     }
 
-    /// Puts the key of the entry at a place below the number of entries together in `key`, and gives where the entry begins.
+    /// Puts the key of the entry at a place below the number of entries together in `key`, and gives where the entry begins. It begins
+    /// at the restart at or before the place.
     pub fn go(&self, place: usize, key: &mut KeyBuf) -> usize
         requires { place < length self.now }
         ensures at { result ≡ offset_of place self.now }
         ensures key { (e : Entry) → slice_get self.now place ≡ Some e → key.new ≡ e.key }
     {
-        self.key_at(0, key);
-        let mut at = 0;
-        for i in 0..place {
-            at = self.offset_behind(i, at);
-            self.key_behind(i, at, key);
+        let start = place - place % 16;
+        let mut at = self.go_to_restart(start, key);
+        for i in start..place {
+            at = self.step(i, at, key);
         }
         at
     }
@@ -149,15 +272,6 @@ impl Block<'_> {
 }
 
 impl<'a> Block<'a> {
-    /// The entry at a place below the number of entries, of which this is the key: no key is put together.
-    pub fn entry_under(&self, place: usize, key: &'a [u8]) -> EntryRef<'a>
-        requires place { place < length self.now }
-        requires key { (e : Entry) → slice_get self.now place ≡ Some e → key.now ≡ e.key }
-        ensures { slice_get self.now place ≡ Some (entry_of result) }
-    {
-        entry_under(self.entries, self.count, place, key)
-    }
-
     /// The entry at a place below the number of entries, which begins here and of which this is the key.
     pub fn entry_here(&self, place: usize, at: usize, key: &'a [u8]) -> EntryRef<'a>
         requires place { place < length self.now }
@@ -165,12 +279,6 @@ impl<'a> Block<'a> {
         requires key { (e : Entry) → slice_get self.now place ≡ Some e → key.now ≡ e.key }
         ensures { slice_get self.now place ≡ Some (entry_of result) }
     {
-        let rest = &self.entries[at..];
-        let found = peek(rest);
-        EntryRef {
-            key,
-            number: found.number,
-            change: found.change,
-        }
+        entry_at(self.entries, self.count, place, at, key)
     }
 }

@@ -10,7 +10,7 @@ ghost use Rattle.block_form.specs.Parts.{parts_of};
 ghost use Rattle.block_form.specs.Walks.{Meets, IsNext};
 
 use crate::fields::{Fields, fields_at};
-use peb_base::{ChangeRef, Key, Value};
+use peb_base::{Key, Value};
 use std::cmp::Ordering;
 
 /// Neither begins with a byte that the other begins with.
@@ -50,15 +50,6 @@ pub fn comes_after(before: &[u8], above: u64, shared: usize, rest: &[u8], number
     }
 }
 
-fn value_len(change: ChangeRef<'_>) -> usize
-    ensures { result ≡ length (value_of (change_of change.entry)) }
-{
-    match change {
-        ChangeRef::Put(value) => value.len(),
-        ChangeRef::Delete => 0,
-    }
-}
-
 fn meets(place: usize, before: &[u8], above: u64, fields: &Fields<'_>) -> bool
     requires { length before.now ≤ 1024 }
     ensures { IsTrue result ↔ Meets place before.now above (parts_of fields.now) }
@@ -75,7 +66,7 @@ fn meets(place: usize, before: &[u8], above: u64, fields: &Fields<'_>) -> bool
     if fields.number >= 1 << 63 {
         return false;
     }
-    if value_len(fields.change) > Value::LONGEST {
+    if fields.change.len() > Value::LONGEST {
         return false;
     }
     if !is_longest(place, before, fields.shared, fields.rest) {

@@ -1,11 +1,11 @@
 //! Walking the entries of a block that was read.
 
-ghost use Rattle.std.specs.Prelude.{◌≡◌, ◌++◌, List, ℕ};
+ghost use Rattle.std.specs.Prelude.{◌≡◌, ◌++◌, List, ℕ, true};
 ghost use Rattle.peb_base.specs.EntryRefs.{change_of};
 ghost use Rattle.peb_base.specs.Entries.{IsEntry};
 ghost use Rattle.peb_base.specs.Keys.{Bytes};
 ghost use Rattle.peb_base.specs.declared.entry.Entry.{Entry};
-ghost use Rattle.block_form.specs.Form.{entry_bytes};
+ghost use Rattle.block_form.specs.Form.{entry_bytes, is_restart};
 ghost use Rattle.block_form.specs.Walks.{BeginsWithEntry};
 
 use crate::fields::fields_at;
@@ -33,6 +33,19 @@ pub fn peek(rest: &[u8]) -> Stepped<'_>
         change: fields.change,
         behind,
     }
+}
+
+/// The whole key and the number of the entry at the front, which is known to be a restart.
+pub fn restart_at(rest: &[u8]) -> (&[u8], u64)
+    requires { (before : Bytes) × BeginsWithEntry before rest.now }
+    ensures { (place : ℕ) (before : Bytes) (e : Entry) (more : List ℕ) → is_restart place ≡ true → IsEntry e
+        → rest.now ≡ entry_bytes place before e ++ more → (result.0.now ≡ e.key) × (result.1 ≡ e.number) }
+{
+    let Some(found) = fields_at(rest) else {
+        unreachable!();
+    };
+    let (fields, _) = found;
+    (fields.rest, fields.number)
 }
 
 /// Goes over the entry at the front, which is known to stand there, and leaves its key.

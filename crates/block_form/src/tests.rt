@@ -107,7 +107,6 @@ fn a_deletion_shares_the_key_before_it(rt: HostRuntime) -> Result<(), Fail> {
     assert_eq!(rt; block.numbers(), (Number::new(0, 1), Number::new(0, 2)));
     let first = block.entry_at(0, &mut key);
     assert_eq!(rt; first.key, b"ab".as_slice());
-    let first = block.entry_under(0, first.key);
     assert_eq!(rt; first.number(), Number::new(0, 2));
     assert!(rt; matches!(first.change, ChangeRef::Put(b"1")));
     Ok(())

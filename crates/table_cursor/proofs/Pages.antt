@@ -4,6 +4,7 @@ use Rattle.std.specs.Prelude.{slice_get}
 use Rattle.peb_base.specs.Keys.{Bytes}
 use Rattle.peb_base.specs.declared.entry.Entry.{Entry}
 use Rattle.block_form.specs.Form.{IsBlock, entries_bytes}
+use Rattle.block_form.specs.Spots.{offset_of}
 use Rattle.block_form.specs.Walks.{entries_from, entries_in}
 use Rattle.disk_model.specs.declared.table_handle.TableHandle.{Ghosts}
 use Rattle.table_file.specs.Tables.{TableParts}
@@ -27,6 +28,11 @@ empty_page len place here buffer key fits =
       key_is = λ some. absurd (omega (arith, some));
       here_is = λ some. absurd (omega (arith, some));
     }
+
+-- the first entry begins where the entries begin
+pub first_offset : (es : List Entry) → offset_of 0 es ≡ 0
+unfolding entries_bytes
+first_offset es = refl
 
 -- a page on which a block was read, at its first entry
 pub full_page : (len count : ℕ) (buffer : List ℕ) (key : Bytes) (es : List Entry) → len ≤ 40960 → IsBlock es (take len buffer) → length es ≡ count → entries_in count (take len buffer) ≡ es

@@ -165,6 +165,10 @@ module _ {F : Type 0} (g : Ghosts F) (t : TableParts F) where
 
   -- ---- what a page shows
 
+  -- another place of the block that is shown
+  pub shows_moved : {index to : ℕ} {page : Reading} → ShowsOf g t index page → to < length page.entries → ShowsOf g t index (record page { place = to })
+  shows_moved shows lt = record { inside = lt; agrees = shows.agrees; small = shows.small; spelled = shows.spelled; read = shows.read }
+
   pub page_read : (index : ℕ) (page : Reading) → ShowsOf g t index page → AreSorted page.entries → CanBeRead g t index page.entries
   page_read index page shows sorted = record { page = page; shows = shows; sorted = sorted; is = refl }
 

@@ -141,12 +141,11 @@ impl Page {
             Err(fault) => return Err(fault),
         };
         let (at, len, _, _) = table.item(index);
-        block_in(&self.loan, len as usize, count).key_at(0, &mut self.key);
+        self.here = block_in(&self.loan, len as usize, count).go(0, &mut self.key);
         self.at = at;
         self.len = len as usize;
         self.count = count;
         self.place = 0;
-        self.here = 0;
         Ok(())
     }
 
@@ -181,7 +180,7 @@ impl Page {
         self.place += 1;
     }
 
-    /// Goes to another place by a walk from the first entry.
+    /// Goes to another place, from the restart at or before it.
     fn jump(&mut self, place: usize)
         requires { place < length self.old.entries }
         ensures { self.new ≡ record self.old { place = place } }
@@ -190,12 +189,15 @@ impl Page {
         self.place = place;
     }
 
-    /// The place of the first entry at or behind this key and number, or the number of entries.
-    pub fn find(&self, key: &[u8], number: Number) -> usize
-        requires { 0 < length self.now.entries }
-        ensures { result ≡ first_from key.now number self.now.entries }
+    /// Goes to the first entry at or behind this key and number, which the block has.
+    pub fn seek(&mut self, key: &[u8], number: Number)
+        requires { first_from key.now number self.old.entries < length self.old.entries }
+        ensures { self.new ≡ record self.old { place = first_from key.now number self.old.entries } }
     {
-        block_in(&self.loan, self.len, self.count).find(key, number)
+        let block = block_in(&self.loan, self.len, self.count);
+        let (place, here) = block.seek(key, number, &mut self.key);
+        self.place = place;
+        self.here = here;
     }
 
     /// The entry at the place.

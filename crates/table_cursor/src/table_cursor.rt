@@ -223,16 +223,6 @@ impl<P: Port> TableCursor<P> {
         }
     }
 
-    /// The place on the page of the first entry at or behind a key and number, which is in the block by the index.
-    fn found(&self, key: &[u8], number: Number) -> usize
-        requires some { 0 < length self.now.page.entries }
-        requires here { self.now.index ≡ index_for key.now number (arc_value self.now.table).items }
-        ensures place { result ≡ first_from key.now number self.now.page.entries }
-        ensures inside { result < length self.now.page.entries }
-    {
-        self.page.find(key, number)
-    }
-
     /// Goes to the first entry at or behind this key and number, or to no place where all come before.
     fn go_to(&mut self, key: &[u8], number: Number) -> Result<(), ReadFault>
         ensures leads { (es : List Entry) → (holds : Holds P.File.TableHandle (arc_value self.old.table) es)
@@ -253,8 +243,7 @@ impl<P: Port> TableCursor<P> {
         if self.page.is_empty() {
             return Ok(());
         }
-        let place = self.found(key, number);
-        self.page.go(place);
+        self.page.seek(key, number);
         Ok(())
     }
 }

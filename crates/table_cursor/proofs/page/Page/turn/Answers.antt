@@ -7,7 +7,8 @@ use Rattle.table_file.specs.Form.{item_of}
 use Rattle.table_file.specs.declared.index_item.IndexItem.{IndexItem}
 use Rattle.table_cursor.specs.Agreeing.{Agrees}
 use Rattle.table_cursor.specs.IndexLaws.{item_is}
-use Rattle.table_cursor.proofs.Pages.{none_in, empty_page, full_page, known_block}
+use Rattle.table_cursor.proofs.Pages.{none_in, empty_page, full_page, known_block, first_offset}
+use Rattle.table_cursor.specs.Page.{IsPage}
 use Rattle.table_cursor.proofs.page.Page.turn.Goals as goal
 
 pub invariant_of-self : goal.invariant_of-self
@@ -22,8 +23,8 @@ block_in-requires-clause-fits g c = ((known_block g.P.File.TableHandle c.args.ta
 pub block_in-requires-clause-block : goal.block_in-requires-clause-block
 block_in-requires-clause-block g c = let read = (known_block g.P.File.TableHandle c.args.table.now c.args.index (record { place = c.item-at.result.0; len = c.item-at.result.1; key = c.item-at.result.2.now; number = c.item-at.result.3 }) c.in-Ok.count c.fetch.new.loan c.item-at.ensures.item c.in-Ok.ensures.fetched) in (read.entries, read.form, read.counted)
 
-pub key_at-requires : goal.key_at-requires
-key_at-requires g c =
+pub go-self-inside-requires : goal.go-self-inside-requires
+go-self-inside-requires g c =
     let read = (known_block g.P.File.TableHandle c.args.table.now c.args.index (record { place = c.item-at.result.0; len = c.item-at.result.1; key = c.item-at.result.2.now; number = c.item-at.result.3 }) c.in-Ok.count c.fetch.new.loan c.item-at.ensures.item c.in-Ok.ensures.fetched) in
     omega (arith, read.form.some, ap length (c.block_in.ensures.block read.entries read.form))
 
@@ -31,8 +32,10 @@ pub invariant_of-self-2 : goal.invariant_of-self-2
 invariant_of-self-2 g c =
     let read = (known_block g.P.File.TableHandle c.args.table.now c.args.index (record { place = c.item-at.result.0; len = c.item-at.result.1; key = c.item-at.result.2.now; number = c.item-at.result.3 }) c.in-Ok.count c.fetch.new.loan c.item-at.ensures.item c.in-Ok.ensures.fetched) in
     let same = c.block_in.ensures.block read.entries read.form in
-    full_page c.item-at.result.1 c.in-Ok.count c.fetch.new.loan c.key_at.new.key_out read.entries read.fits read.form read.counted (sym c.block_in.ensures.reads ∙ same)
-    (λ e there. c.key_at.ensures e (ap (λ (es : List Entry). slice_get es 0) same ∙ there))
+    subst (λ here. IsPage c.item-at.result.1 c.in-Ok.count 0 here c.fetch.new.loan c.go-self-inside.new.key (entries_in c.in-Ok.count (take c.item-at.result.1 c.fetch.new.loan)))
+    (sym (c.go-self-inside.ensures.at ∙ first_offset c.block_in.result))
+    (full_page c.item-at.result.1 c.in-Ok.count c.fetch.new.loan c.go-self-inside.new.key read.entries read.fits read.form read.counted (sym c.block_in.ensures.reads ∙ same)
+    (λ e there. c.go-self-inside.ensures.key e (ap (λ (es : List Entry). slice_get es 0) same ∙ there)))
 
 pub returns-clause-shows : goal.returns-clause-shows
 returns-clause-shows g c =
