@@ -111,7 +111,8 @@ pub record Quiet {D : Type 0} (d : Ghosts D) (journal : D) (start : Start) (logs
       → (m : ℕ) → 0 < m → image (Log m) ≡ d.seen journal (Log m)
 
 -- the logs were read in an opening that began so, and each crash since then left its base
-pub record HasRead {D : Type 0} (d : Ghosts D) (journal : D) (start : Start) (logs : List Held) : Type 0 where
+pub record HasRead {D : Type 0} (d : Ghosts D) (journal : D) (start : Start) (logs : List Held)
+    : Type 0 where
   pub began : start.moment ≤ d.moment journal
   pub counted : start.faults ≤ d.faults journal
   pub quiet : IsTrue d.tells → Quiet d journal start logs

@@ -89,7 +89,9 @@ IsOutOfNumbers session batches = next_number session batches ≡ session * 2 ^ 4
 
 -- the records that wait and one more would take more bytes than a tail may have
 abbrev pub IsTailFull : ℕ → Place → List Op → Type 0
-IsTailFull session p ops = 2 ^ 31 < length (records_bytes (map record_of p.waiting)) + 4 + length (record_of (next_number session (all_of p), ops))
+IsTailFull session p ops =
+    2 ^ 31 < length (records_bytes (map record_of p.waiting)) + 4
+    + length (record_of (next_number session (all_of p), ops))
 
 -- no limit is passed
 pub record IsWithinLimits (session : ℕ) (p : Place) (ops : List Op) : Type 0 where

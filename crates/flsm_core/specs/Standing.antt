@@ -33,7 +33,8 @@ pub record Waits (log : LogFile) (session : ℕ) (p : Place) : Type 0 where
   pub each : AllByRecursion (IsBatchIn session) p.waiting
 
 -- The journal has the logs of the settled batches, the last of them the state's own.
-pub record Rests {D : Type 0} (d : Ghosts D) (journal : D) (log : LogFile) (session : ℕ) (p : Place) : Type 0 where
+pub record Rests {D : Type 0} (d : Ghosts D) (journal : D) (log : LogFile) (session : ℕ) (p : Place)
+    : Type 0 where
   pub logs : List Held
   pub current : Held
   pub holds : IsTrue p.start.honest → HoldsLogs 1 (logs ++ current ∷ []) (d.seen journal)

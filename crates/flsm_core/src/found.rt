@@ -61,7 +61,8 @@ impl Found {
             → log.header ≡ header.now → flat log.groups ≡ bodies_of records.now
             → (own : Batches) × IsFound profile found (logs ++ log ∷ []) (batches ++ own)) }
         ensures count { IfOk result (λ found. found.logs ≡ self.logs + 1) }
-        ensures cause { IfErr result (AddCause profile (self.logs + 1) header.now ((logs : List Held) (batches : Batches) → IsFound profile self logs batches
+        ensures cause { IfErr result (AddCause profile (self.logs + 1) header.now
+            ((logs : List Held) (batches : Batches) → IsFound profile self logs batches
             → CantGoOn header.now.session batches (bodies_of records.now))) }
     {
         let session = header.session;

@@ -47,9 +47,11 @@ fn next_log<J: Journal>(
     ensures cause { IfErr result (λ fault. (logs : List Held) (batches : Batches)
         → IsFound profile found logs batches
         → (IsTrue J.tells → BeginsLogs 1 logs (J.seen journal.old))
-        → OpenCause (Rose (J.faults journal.old) (J.faults journal.new)) J.tells (J.seen journal.old) profile fault) }
+        → OpenCause (Rose (J.faults journal.old) (J.faults journal.new)) J.tells
+        (J.seen journal.old) profile fault) }
     ensures watched { HasWatched (told_by J.Journal journal.old) (told_by J.Journal journal.new) }
-    ensures kept { OnOk result (Keeps (Log (found.logs + 1)) (J.seen journal.old (Log (found.logs + 1))) (J.may_leave journal.new)) }
+    ensures kept { OnOk result (Keeps (Log (found.logs + 1))
+        (J.seen journal.old (Log (found.logs + 1))) (J.may_leave journal.new)) }
     ensures later { J.faults journal.old ≤ J.faults journal.new }
 {
     one_reading();
@@ -76,7 +78,8 @@ fn read_logs<J: Journal>(
         × IsFound profile found logs batches
         × (IsTrue J.tells → HoldsLogs 1 logs (J.seen journal.old))) }
     ensures kept { IfOk result (λ found. AreKept J.Journal journal.new (found.logs + 1)) }
-    ensures cause { IfErr result (OpenCause (Rose (J.faults journal.old) (J.faults journal.new)) J.tells (J.seen journal.old) profile) }
+    ensures cause { IfErr result (OpenCause
+        (Rose (J.faults journal.old) (J.faults journal.new)) J.tells (J.seen journal.old) profile) }
     ensures watched { HasWatched (told_by J.Journal journal.old) (told_by J.Journal journal.new) }
     ensures later { J.faults journal.old ≤ J.faults journal.new }
 {
@@ -125,7 +128,8 @@ impl<J: Journal> State<J> {
             → HasRead J.Journal journal start logs
             → (image : Image) → J.left_since e.1 start.moment image
             → Stands start.profile start.base image) }
-        ensures never_falls { MatchResult result (λ state. J.faults journal ≤ J.faults (state_journal state))
+        ensures never_falls { MatchResult result
+            (λ state. J.faults journal ≤ J.faults (state_journal state))
             (λ e. J.faults journal ≤ J.faults e.1) }
     {
         let session = found.greatest + 1;
@@ -180,7 +184,8 @@ impl<J: Journal> State<J> {
             → OpensOn profile true base (J.seen journal) (J.may_leave journal)
             → (image : Image) → J.left_since e.1 (J.moment journal) image
             → Stands profile base image) }
-        ensures never_falls { MatchResult result (λ state. J.faults journal ≤ J.faults (state_journal state))
+        ensures never_falls { MatchResult result
+            (λ state. J.faults journal ≤ J.faults (state_journal state))
             (λ e. J.faults journal ≤ J.faults e.1) }
     {
         one_reading();

@@ -45,6 +45,7 @@ AreNumbered low all (command ∷ commands) text failed =
 -- batches of the run, among them all that were there before
 abbrev pub RunsNumber : Type 0
 RunsNumber =
-    (session : ℕ) (old : Place) (commands : List Command) (text : List ℕ) (cause : Option Cause) (failed : Bool) (new : Place)
+    (session : ℕ) (old : Place) (commands : List Command) (text : List ℕ) (cause : Option Cause)
+    (failed : Bool) (new : Place)
     → Tells (TellsOne session) old commands text cause failed new
     → AreNumbered (last_number (all_of old)) (all_of new) commands text failed

@@ -51,12 +51,14 @@ ShowsAll last (command ∷ commands) text failed =
 
 -- the lines of a run show this of where the run ended
 abbrev pub RunsShow : Type 0
-RunsShow = (session : ℕ) (old : Place) (commands : List Command) (text : List ℕ) (cause : Option Cause) (failed : Bool) (new : Place)
+RunsShow = (session : ℕ) (old : Place) (commands : List Command) (text : List ℕ)
+    (cause : Option Cause) (failed : Bool) (new : Place)
     → Tells (TellsOne session) old commands text cause failed new
     → ShowsAll new commands text failed
 
 -- once the journal has failed each write replies `stopped` and changes nothing
 abbrev pub StoppedStays : Type 0
-StoppedStays = (session : ℕ) (old : Place) (key value : Bytes) (sync : Bool) (text : List ℕ) (cause : Option Cause) (new : Place)
+StoppedStays = (session : ℕ) (old : Place) (key value : Bytes) (sync : Bool) (text : List ℕ)
+    (cause : Option Cause) (new : Place)
     → old.stopped ≡ true → TellsOne session old (commands.Put key value sync) text cause new
     → (text ≡ write_line sync (Err writes.Stopped)) × (new ≡ old)

@@ -51,7 +51,8 @@ sync_cause (Err syncs.Stopped) = None
 sync_cause (Err syncs.Journal) = Some causes.Journal
 
 -- a put may have this line, which tells this fault, and leads there
-pub record TellsPut (session : ℕ) (old : Place) (key value : Bytes) (sync : Bool) (text : List ℕ) (cause : Option Cause) (new : Place) : Type 0 where
+pub record TellsPut (session : ℕ) (old : Place) (key value : Bytes) (sync : Bool) (text : List ℕ)
+    (cause : Option Cause) (new : Place) : Type 0 where
   pub answer : Result ℕ WriteFault
   pub answers : Writes session old (put_op key value ∷ []) sync answer
   pub line : text ≡ write_line sync answer
@@ -59,7 +60,8 @@ pub record TellsPut (session : ℕ) (old : Place) (key value : Bytes) (sync : Bo
   pub leads : new ≡ after_write session old (put_op key value ∷ []) sync answer
 
 -- a read has this line, tells no fault, and changes nothing
-pub record TellsGet (old : Place) (key : Bytes) (text : List ℕ) (cause : Option Cause) (new : Place) : Type 0 where
+pub record TellsGet (old : Place) (key : Bytes) (text : List ℕ) (cause : Option Cause) (new : Place)
+    : Type 0 where
   pub line : text ≡ get_line (all_of old) key
   pub tells : cause ≡ None
   pub leads : new ≡ old

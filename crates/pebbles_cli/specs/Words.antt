@@ -11,7 +11,9 @@ is_name (c ∷ cs) = not (c == 45)
 -- these seven words are those of a run
 abbrev pub are_run : List ℕ → List ℕ → List ℕ → List ℕ → List ℕ → List ℕ → List ℕ → Bool
 are_run run profile small workers count dir file =
-    bytes_eq run (codes "run") && bytes_eq profile (codes "--profile") && bytes_eq small (codes "small") && bytes_eq workers (codes "--workers") && bytes_eq count (codes "0") && is_name dir && is_name file
+    bytes_eq run (codes "run") && bytes_eq profile (codes "--profile")
+    && bytes_eq small (codes "small") && bytes_eq workers (codes "--workers")
+    && bytes_eq count (codes "0") && is_name dir && is_name file
 
 -- the directory and the script that words name
 abbrev pub run_words : List (List ℕ) → Option (List ℕ × List ℕ)

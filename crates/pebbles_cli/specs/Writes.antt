@@ -15,7 +15,8 @@ refused commits.Memory = writes.Memory
 
 -- where a write leads: one more batch, which waits unless a sync was asked for
 abbrev pub after_write : ℕ → Place → List Op → Bool → Result ℕ WriteFault → Place
-after_write session p ops sync (Ok n) = if sync then all_settled (with_batch session p ops) else with_batch session p ops
+after_write session p ops sync (Ok n) =
+    if sync then all_settled (with_batch session p ops) else with_batch session p ops
 after_write session p ops sync (Err (writes.Unsynced n)) = halted (with_batch session p ops)
 after_write session p ops sync (Err writes.Stopped) = p
 after_write session p ops sync (Err (writes.Limit kind n)) = p

@@ -57,7 +57,8 @@ pub fn open_store<D: Devices>(
     ensures cause { IfErr result (λ cause. IsOpeningCause (devices_told D.J.Journal D.Devices devices.old)
         (devices_told D.J.Journal D.Devices devices.new) cause) }
     // what it leaves
-    ensures refused { OnErr result (OpensAtMost dir.now (D.directories devices.old) (D.directories devices.new)) }
+    ensures refused { OnErr result (OpensAtMost dir.now (D.directories devices.old)
+        (D.directories devices.new)) }
     ensures untouched { IfErr result (λ cause. cause ≢ causes.Journal
         → HasWatched (D.journal_told devices.old) (D.journal_told devices.new)) }
     ensures ever { IfErr result (λ cause. IsTrue D.J.tells → (base : Batches)

@@ -91,7 +91,8 @@ pub fn top_plain<D: Devices, S: Scripts, K: Sinks>(
     ensures status { result.status ≡ status_of result.cause }
     ensures usage { (result.cause ≡ causes.Usage)
         ↔ (run_words (map string_bytes words.now) ≡ None) }
-    ensures cause { IfSome (run_words (map string_bytes words.now)) (λ names. PlayCause (S.text scripts.old names.1)
+    ensures cause { IfSome (run_words (map string_bytes words.now))
+        (λ names. PlayCause (S.text scripts.old names.1)
         (outside D.J.Journal D.Devices K.Sinks devices sinks.old)
         (outside D.J.Journal D.Devices K.Sinks result.devices sinks.new) result.cause) }
     ensures source { (i : ℕ) → result.cause ≡ causes.Source i

@@ -27,6 +27,8 @@ placed-push at (first ∷ groups) group =
     ++ groups_bytes groups) = omega (arith, length-append (group_bytes first) (groups_bytes groups)) in
     ap (λ l. map (λ body. (at, body)) first
     ++ l) (placed-push (at + length (group_bytes first)) groups group)
-    ∙ sym (append_assoc (map (λ body. (at, body)) first) (placed (at + length (group_bytes first)) groups) (map (λ body. (at + length (group_bytes first) + length (groups_bytes groups), body)) group))
+    ∙ sym (append_assoc (map (λ body. (at, body)) first)
+    (placed (at + length (group_bytes first)) groups)
+    (map (λ body. (at + length (group_bytes first) + length (groups_bytes groups), body)) group))
     ∙ ap (λ (n : ℕ). map (λ body. (at, body)) first
     ++ placed (at + length (group_bytes first)) groups ++ map (λ body. (n, body)) group) there

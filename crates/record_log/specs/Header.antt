@@ -14,7 +14,9 @@ profile_code Small = 1
 
 -- the 24 bytes of a header: its gate, open; FLSM; and its fields
 abbrev pub header_bytes : Header → List ℕ
-header_bytes h = 1 ∷ 70 ∷ 76 ∷ 83 ∷ 77 ∷ h.kind ∷ h.form ∷ profile_code h.profile ∷ (big_bytes 8 h.number ++ big_bytes 8 h.session)
+header_bytes h =
+    1 ∷ 70 ∷ 76 ∷ 83 ∷ 77 ∷ h.kind ∷ h.form ∷ profile_code h.profile
+    ∷ (big_bytes 8 h.number ++ big_bytes 8 h.session)
 
 -- the headers that a file may have: those of a log have its number, which its session bounds; those
 -- of a manifest have no session

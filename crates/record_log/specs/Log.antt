@@ -7,13 +7,15 @@ use Rattle.record_log.specs.Header.{header_bytes, IsHeaderOf}
 use Rattle.record_log.specs.Groups.{groups_bytes, AreGroups, IsNoGroup, placed}
 
 -- the bytes are a header of the file, groups behind open gates, and then the rest
-pub record Splits (file : JournalFile) (bytes : List ℕ) (header : Header) (groups : List (List (List ℕ))) (rest : List ℕ) : Type 0 where
+pub record Splits (file : JournalFile) (bytes : List ℕ) (header : Header)
+    (groups : List (List (List ℕ))) (rest : List ℕ) : Type 0 where
   pub fits : IsHeaderOf file header
   pub each : AreGroups groups
   pub spelled : bytes ≡ header_bytes header ++ groups_bytes groups ++ rest
 
 -- the file holds this header and these groups; a closed gate ends them
-pub record IsLog (file : JournalFile) (header : Header) (groups : List (List (List ℕ))) (found : Option (List ℕ)) : Type 0 where
+pub record IsLog (file : JournalFile) (header : Header) (groups : List (List (List ℕ)))
+    (found : Option (List ℕ)) : Type 0 where
   pub gate : ℕ
   pub rest : List ℕ
   pub bytes : List ℕ

@@ -60,8 +60,10 @@ impl LogFile {
         ensures elsewhere { (other : JournalFile) → other ≢ file
             → J.seen journal.new other ≡ J.seen journal.old other }
         ensures any_moment { IsTrue J.tells
-            → Follows (In file (Creates file header)) (J.may_leave journal.old) (J.left_since journal.new (J.moment journal.old)) }
-        ensures time { Elapses (J.moment journal.old) (J.moment journal.new) (J.left_since journal.old) (J.left_since journal.new) }
+            → Follows (In file (Creates file header)) (J.may_leave journal.old)
+            (J.left_since journal.new (J.moment journal.old)) }
+        ensures time { Elapses (J.moment journal.old) (J.moment journal.new)
+            (J.left_since journal.old) (J.left_since journal.new) }
         ensures steady { J.steady journal.old → J.steady journal.new }
     {
         let tail = Tail::new(alloc)?;
@@ -100,8 +102,10 @@ impl LogFile {
         ensures later { J.faults journal.old ≤ J.faults journal.new }
         ensures kept { OnOk result (Keeps file (J.seen journal.old file) (J.may_leave journal.new)) }
         ensures seen { J.seen journal.new ≡ J.seen journal.old }
-        ensures any_moment { Follows (In file Stays) (J.may_leave journal.old) (J.left_since journal.new (J.moment journal.old)) }
-        ensures time { Elapses (J.moment journal.old) (J.moment journal.new) (J.left_since journal.old) (J.left_since journal.new) }
+        ensures any_moment { Follows (In file Stays) (J.may_leave journal.old)
+            (J.left_since journal.new (J.moment journal.old)) }
+        ensures time { Elapses (J.moment journal.old) (J.moment journal.new)
+            (J.left_since journal.old) (J.left_since journal.new) }
         ensures steady { J.steady journal.old → J.steady journal.new }
     {
         let bytes = match read_whole(alloc, journal, file) {
@@ -161,7 +165,8 @@ impl LogFile {
     pub fn close_group<J: Journal>(&mut self, journal: &mut J) -> Result<(), Failed>
         requires { IsTrue J.tells → (header : Header) × (groups : List (List (List ℕ)))
             × IsReady J.tells J.seen J.may_leave journal.old self.old header groups }
-        ensures closed { OnOk result ((header : Header) (groups : List (List (List ℕ))) (bodies : List (List ℕ))
+        ensures closed { OnOk result ((header : Header) (groups : List (List (List ℕ)))
+            (bodies : List (List ℕ))
             → IsReady J.tells J.seen J.may_leave journal.old self.old header groups
             → log_tail self.old ≡ records_bytes bodies
             → IsReady J.tells J.seen J.may_leave journal.new self.new header (with_group groups bodies)) }
@@ -171,10 +176,13 @@ impl LogFile {
         ensures any_moment { (header : Header) (groups : List (List (List ℕ))) (bodies : List (List ℕ))
             → IsReady J.tells J.seen J.may_leave journal.old self.old header groups
             → log_tail self.old ≡ records_bytes bodies
-            → Follows (In (log_file self.old) (λ old new. IsBeforeOrAfter (log_file self.old) header groups bodies new)) (J.may_leave journal.old) (J.left_since journal.new (J.moment journal.old)) }
+            → Follows (In (log_file self.old)
+            (λ old new. IsBeforeOrAfter (log_file self.old) header groups bodies new))
+            (J.may_leave journal.old) (J.left_since journal.new (J.moment journal.old)) }
         ensures elsewhere { (other : JournalFile) → other ≢ log_file self.old
             → J.seen journal.new other ≡ J.seen journal.old other }
-        ensures time { Elapses (J.moment journal.old) (J.moment journal.new) (J.left_since journal.old) (J.left_since journal.new) }
+        ensures time { Elapses (J.moment journal.old) (J.moment journal.new)
+            (J.left_since journal.old) (J.left_since journal.new) }
         ensures steady { J.steady journal.old → J.steady journal.new }
         ensures cause { HasCause (J.faults journal.old) (J.faults journal.new) result }
         ensures empty { log_tail self.old ≡ [] → IsOk result × (journal.new ≡ journal.old) }

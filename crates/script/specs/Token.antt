@@ -61,7 +61,8 @@ token_text bytes = if length bytes == 0 then codes "\"\"" else flat_map byte_tex
 unfoldable pub escape_at : List ℕ → Option (ℕ × List ℕ)
 escape_at [] = None
 escape_at (h ∷ []) = None
-escape_at (h ∷ l ∷ rest) = option_and_then (λ high. option_map (λ low. (high * 16 + low, rest)) (hex_value l)) (hex_value h)
+escape_at (h ∷ l ∷ rest) = option_and_then
+    (λ high. option_map (λ low. (high * 16 + low, rest)) (hex_value l)) (hex_value h)
 
 -- the byte that the front of a text spells, and the rest
 unfoldable pub byte_at : List ℕ → Option (ℕ × List ℕ)
@@ -79,7 +80,8 @@ bytes_in (c ∷ []) = if is_plain_byte c then Some (c ∷ []) else None
 bytes_in (c ∷ h ∷ []) = if is_plain_byte c then onto c (bytes_in (h ∷ [])) else None
 bytes_in (c ∷ h ∷ l ∷ cs) =
     if is_plain_byte c then onto c (bytes_in (h ∷ l ∷ cs))
-    else if c == 37 then option_and_then (λ high. option_and_then (λ low. onto (high * 16 + low) (bytes_in cs)) (hex_value l)) (hex_value h)
+    else if c == 37 then option_and_then
+    (λ high. option_and_then (λ low. onto (high * 16 + low) (bytes_in cs)) (hex_value l)) (hex_value h)
     else None
 
 -- the string that a token spells
