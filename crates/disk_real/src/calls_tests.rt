@@ -183,3 +183,32 @@ fn names_that_are_no_tables_are_skipped(rt: HostRuntime) -> Result<(), Fail> {
     assert_eq!(rt; numbers.as_slice(), [TABLE, TABLE + 1].as_slice());
     Ok(())
 }
+
+#[test]
+fn a_log_that_may_only_be_read_is_read(rt: HostRuntime) -> Result<(), Fail> {
+    let seen = Rc::new(rt.alloc(), Seen::nothing())?;
+    seen.has_folder.set(true);
+    seen.has_file.set(true);
+    seen.is_read_only.set(true);
+    let mut journal = journal_over(rt, rt.alloc(), &seen)?;
+    let size = journal.size(LOG)?;
+    assert_eq!(rt; size, Some(0));
+    Ok(())
+}
+
+#[test]
+fn a_read_and_a_write_go_on_after_a_signal(rt: HostRuntime) -> Result<(), Fail> {
+    let seen = Rc::new(rt.alloc(), Seen::nothing())?;
+    let folder = folder_over(rt, rt.alloc(), &seen)?;
+    let mut maker = RealMaker::new(folder)?;
+    maker.begin(TABLE)?;
+    seen.is_interrupted.set(true);
+    maker.write(b"one")?;
+    let mut journal = journal_over(rt, rt.alloc(), &seen)?;
+    journal.write(LOG, 0, b"a")?;
+    seen.is_interrupted.set(true);
+    let mut out = [0; 4];
+    let count = journal.read(LOG, 0, &mut out)?;
+    assert_eq!(rt; (maker.taken(), count), (3, 0));
+    Ok(())
+}

@@ -21,6 +21,10 @@ pub struct Seen {
     pub fails_syncs: Cell<bool>,
     /// Whether another program is in the directory.
     pub is_taken: Cell<bool>,
+    /// Whether the file that is there may only be read.
+    pub is_read_only: Cell<bool>,
+    /// Whether a signal comes between at the next read or write.
+    pub is_interrupted: Cell<bool>,
 }
 
 impl Seen {
@@ -34,7 +38,17 @@ impl Seen {
             parent_syncs: Cell::new(0),
             fails_syncs: Cell::new(false),
             is_taken: Cell::new(false),
+            is_read_only: Cell::new(false),
+            is_interrupted: Cell::new(false),
         }
+    }
+
+    /// Fails once, where a signal comes between.
+    fn interrupt(&self) -> io::Result<()> {
+        if self.is_interrupted.replace(false) {
+            return Err(io::Error::from(ErrorKind::Interrupted));
+        }
+        Ok(())
     }
 
     /// The syncs of the file, of its directory, and of the directory's parent.
@@ -89,30 +103,36 @@ impl KeepOut for WatchedFile {
     }
 }
 
-/// Names that are read at once, each ended by a NUL.
+/// The names in the directory, each ended by a NUL.
+const NAMES: &[u8] = b"log-1\0table-1.2\0table-\xff\0table-1.03\0table-x.1\0table-1.1\0";
+
+/// A listing of the directory, which is read at once.
 #[derive(Drop)]
-pub struct Names {
-    left: &'static [u8],
+pub struct Listing {
+    is_read: bool,
 }
 
-impl Read for Names {
+impl Read for Listing {
     fn read(&mut self, buf: &mut [u8]) -> io::Result<usize> {
-        let count = self.left.len().min(buf.len());
-        let (front, rest) = self.left.split_at(count);
-        buf[..count].copy_from_slice(front);
-        self.left = rest;
-        Ok(count)
+        if self.is_read || buf.len() < NAMES.len() {
+            return Ok(0);
+        }
+        self.is_read = true;
+        buf[..NAMES.len()].copy_from_slice(NAMES);
+        Ok(NAMES.len())
     }
 }
 
 impl Read for WatchedFile {
     fn read(&mut self, _buf: &mut [u8]) -> io::Result<usize> {
+        self.seen.interrupt()?;
         Ok(0)
     }
 }
 
 impl Write for WatchedFile {
     fn write(&mut self, buf: &[u8]) -> io::Result<usize> {
+        self.seen.interrupt()?;
         Ok(buf.len())
     }
 
@@ -179,7 +199,7 @@ fn kind_of(path: &str) -> Kind {
 impl<W> Files for Watched<W> {
     type File = WatchedFile;
 
-    type Dir = Names;
+    type Dir = Listing;
 
     fn open_file(&self, how: &OpenOptions, path: &str) -> io::Result<WatchedFile> {
         is_there(self.seen.has_folder.get())?;
@@ -188,6 +208,9 @@ impl<W> Files for Watched<W> {
             self.seen.has_file.set(true);
         }
         is_there(kind != Kind::File || self.seen.has_file.get())?;
+        if how.asks_write() && self.seen.is_read_only.get() {
+            return Err(io::Error::from(ErrorKind::PermissionDenied));
+        }
         Ok(WatchedFile {
             seen: self.seen.clone()?,
             kind,
@@ -205,10 +228,8 @@ impl<W> Files for Watched<W> {
         is_there(self.seen.has_file.replace(false))
     }
 
-    fn open_dir(&self, _path: &str) -> io::Result<Names> {
-        Ok(Names {
-            left: b"log-1\0table-1.2\0table-\xff\0table-1.03\0table-x.1\0table-1.1\0",
-        })
+    fn open_dir(&self, _path: &str) -> io::Result<Listing> {
+        Ok(Listing { is_read: false })
     }
 
     fn metadata(&self, _path: &str) -> io::Result<Metadata> {
