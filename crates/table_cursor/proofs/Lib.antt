@@ -3,6 +3,8 @@ pub mod Ends
 pub mod Finding
 pub mod Honest
 pub mod Moves
+pub mod Looked
+pub mod Newest
 pub mod Pages
 pub mod Seeking
 pub mod Standings

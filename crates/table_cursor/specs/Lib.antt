@@ -1,6 +1,7 @@
 pub mod Agreeing
 pub mod Fetching
 pub mod IndexLaws
+pub mod Looking
 pub mod Page
 pub mod Places
 pub mod Spots

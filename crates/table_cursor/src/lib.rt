@@ -7,11 +7,13 @@
 mod agreeing;
 mod fetching;
 mod laws;
+mod looking;
 mod page;
 mod step;
 mod table_cursor;
 #[cfg(test)]
 mod tests;
 
+pub use looking::{look_in, look_up};
 pub use laws::{law_walk_ascends, law_walk_ends, law_walk_told};
 pub use table_cursor::TableCursor;

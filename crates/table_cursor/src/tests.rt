@@ -326,3 +326,91 @@ fn a_table_of_twenty_thousand_entries_is_walked_both_ways(rt: HostRuntime) -> Re
     assert_eq!(rt; told?, (most, most));
     Ok(())
 }
+
+/// How many of so many numbers that fall to 1 the cursor shows on the way on, on the way back, and at a seek of each.
+fn found<P: Port>(cursor: &mut TableCursor<P>, most: u32) -> Result<[u32; 3], ReadFault> {
+    let mut found = [0u32; 3];
+    cursor.first()?;
+    for above in (1..most.saturating_add(1)).rev() {
+        if shows(cursor, above) {
+            found[0] = found[0].saturating_add(1);
+        }
+        cursor.next()?;
+    }
+    if cursor.at().is_some() {
+        found[0] = 0;
+    }
+    cursor.last()?;
+    for above in 1..most.saturating_add(1) {
+        if shows(cursor, above) {
+            found[1] = found[1].saturating_add(1);
+        }
+        cursor.prev()?;
+    }
+    if cursor.at().is_some() {
+        found[1] = 0;
+    }
+    for above in 1..most.saturating_add(1) {
+        cursor.seek(b"k", numbered(above))?;
+        if shows(cursor, above) {
+            found[2] = found[2].saturating_add(1);
+        }
+    }
+    Ok(found)
+}
+
+fn numbered(count: u32) -> Number {
+    Number::new(1, (count % 1000) as u64)
+}
+
+fn shows<P: Port>(cursor: &TableCursor<P>, count: u32) -> bool {
+    cursor
+        .at()
+        .is_some_and(|entry| entry.number() == numbered(count))
+}
+
+/// The number of blocks of a table of one key of one byte whose numbers fall to 1, with values of one byte, and what is found there.
+fn fallen(alloc: Global, profile: Profile, most: u32) -> Result<(usize, [u32; 3]), Fail> {
+    let mut entries = Vec::new(alloc);
+    for count in (1..most.saturating_add(1)).rev() {
+        entries.push((Key::new(alloc, b"k")?, numbered(count)))?;
+    }
+    let value = Value::new(alloc, b"v")?;
+    let mut devices = MemDevices::new(alloc, Plans::empty(alloc))?;
+    let mut maker = devices.maker()?;
+    let made = write(alloc, profile, &mut maker, &entries, &value);
+    devices.back_maker(maker);
+    let table = Arc::new(alloc, made?.ok_or("no table")?)?;
+    let mut pool = Pool::new(alloc, 1)?;
+    let port = devices.port()?;
+    let Some(loan) = pool.lend() else {
+        devices.back_port(port);
+        return Err(Fail::from("no loan"));
+    };
+    let blocks = table.blocks();
+    let mut cursor = TableCursor::open(table, port, loan);
+    let told = found(&mut cursor, most);
+    let (_, port, loan) = cursor.close();
+    devices.back_port(port);
+    pool.give_back(loan);
+    Ok((blocks, told?))
+}
+
+#[test]
+fn blocks_of_1_to_224_entries_are_walked_and_sought(rt: HostRuntime) -> Result<(), Fail> {
+    let alloc = rt.alloc();
+    for (profile, most, blocks) in [
+        (Profile::Normal, 1, 1),
+        (Profile::Normal, 16, 1),
+        (Profile::Normal, 17, 1),
+        (Profile::Normal, 224, 1),
+        (Profile::Normal, 225, 2),
+        (Profile::Normal, 449, 3),
+        (Profile::Small, 14, 1),
+        (Profile::Small, 15, 2),
+    ] {
+        let told = fallen(alloc, profile, most)?;
+        assert_eq!(rt; told, (blocks, [most; 3]), "{most} entries");
+    }
+    Ok(())
+}

@@ -11,3 +11,4 @@ pub mod Searching
 pub mod Spelled
 pub mod Summing
 pub mod Written
+mod CutOnce

@@ -1,5 +1,6 @@
 pub mod Ascending
 pub mod Blocks
+pub mod Cutting
 pub mod Damages
 pub mod Form
 pub mod Gathers

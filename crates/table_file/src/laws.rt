@@ -8,6 +8,7 @@ ghost use Rattle.peb_base.specs.Profiles.{Column};
 ghost use Rattle.peb_base.specs.Tables as reckoned;
 ghost use Rattle.peb_base.specs.declared.entry.Entry.{Entry};
 ghost use Rattle.table_file.specs.Blocks.{AreBlocks};
+ghost use Rattle.table_file.specs.Cutting.{BlocksAreCut, OneCut};
 ghost use Rattle.table_file.specs.Form.{blocks_of, items_from, index_bytes, key_filter, table_bytes};
 ghost use Rattle.table_file.specs.Opening.{OpensAs};
 ghost use Rattle.table_file.specs.Holding.{WrittenHolds, OpenedHolds};
@@ -47,6 +48,13 @@ pub fn law_blocks()
 {
     block_grows();
 }
+
+/// A table's entries are cut into blocks in one way: one after another the blocks have the entries, none was full before its last
+/// entry, and each but the last is full.
+pub fn law_cut()
+    ensures cut { BlocksAreCut }
+    ensures only { OneCut }
+{}
 
 /// The bytes of a table are as many as are reckoned from its entries and its profile's column alone.
 pub fn law_length()

@@ -1,0 +1,29 @@
+use Rattle.std.proofs.Common.{◌≡◌, ◌<◌, ◌≤◌, ◌∙◌, List, Some, length, sym, ap, subst, arith, rules}
+use Rattle.std.specs.Prelude.{slice_get}
+use Rattle.peb_base.specs.Entries.{first_from}
+use Rattle.peb_base.specs.EntryRefs.{entry_of}
+use Rattle.peb_base.specs.declared.entry.Entry.{Entry}
+use Rattle.table_cursor.specs.Looking.{newest_of}
+use Rattle.table_cursor.proofs.Newest.{found_there, other_there, none_there, keys_differ, keys_same}
+use Rattle.table_cursor.proofs.looking.look_in.Goals as goal
+
+pub returns-then-place-len : goal.returns-then-place-len
+returns-then-place-len c = λ es is.
+    let same = c.one_block.ensures c.again-block.result es c.args.bytes.now c.again-block.ensures is in
+    none_there c.args.key.now c.args.number es is.each (omega (arith, c.if-place-len.true, c.len.ensures, c.seek-place.ensures.place, ap length same, ap (first_from c.args.key.now c.args.number) same))
+
+pub returns-then-ne : goal.returns-then-ne
+returns-then-ne c = λ es is.
+    let same = c.one_block.ensures c.again-block.result es c.args.bytes.now c.again-block.ensures is in
+    let e = entry_of c.entry_here-entry.result in
+    let there : slice_get es (first_from c.args.key.now c.args.number es) ≡ Some e =
+    subst (λ (l : List Entry). slice_get l (first_from c.args.key.now c.args.number l) ≡ Some e) same (ap (slice_get c.again-block.result) (sym c.seek-place.ensures.place) ∙ c.entry_here-entry.ensures) in
+    other_there c.args.key.now c.args.number es e is.each there (keys_differ e.key c.args.key.now (sym c.ne.ensures ∙ c.if-ne.true))
+
+pub returns : goal.returns
+returns c = λ es is.
+    let same = c.one_block.ensures c.again-block.result es c.args.bytes.now c.again-block.ensures is in
+    let e = entry_of c.entry_here-entry.result in
+    let there : slice_get es (first_from c.args.key.now c.args.number es) ≡ Some e =
+    subst (λ (l : List Entry). slice_get l (first_from c.args.key.now c.args.number l) ≡ Some e) same (ap (slice_get c.again-block.result) (sym c.seek-place.ensures.place) ∙ c.entry_here-entry.ensures) in
+    found_there c.args.key.now c.args.number es e is.each there (keys_same e.key c.args.key.now (sym c.ne.ensures ∙ c.if-ne.false))
