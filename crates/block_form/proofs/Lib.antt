@@ -5,3 +5,4 @@ pub mod Spelling
 pub mod Spots
 pub mod Walks
 mod Restarts
+mod Ending

@@ -118,27 +118,29 @@ step_down place at on before above bytes places p behind left (e ∷ more) some 
     down = subst (λ (n : ℕ). Spells (suc place) n (take p.shared before ++ p.rest) p.number more behind left) (sym moved) carried
 
 -- the walk so far: what is left makes a whole, and a whole leaves something
-pub record Walk (place at : ℕ) (before : Bytes) (above : ℕ) (rest left entries places : List ℕ) : Type 0 where
-  pub up : (es : List Entry) → Spells place at before above es rest left → (all : List Entry) × Spells 0 1 [] 0 all entries places × (length all ≡ place + length es)
+pub record Walk (front : List Entry) (place at : ℕ) (before : Bytes) (above : ℕ) (rest left entries places : List ℕ) : Type 0 where
+  pub long : length front ≡ place
+  pub up : (es : List Entry) → Spells place at before above es rest left → Spells 0 1 [] 0 (front ++ es) entries places
   pub down : (all : List Entry) → Spells 0 1 [] 0 all entries places → (es : List Entry) × Spells place at before above es rest left
   pub size : length rest + at ≡ length entries + 1
   pub count : place ≤ at
 
-pub walk_start : (entries places : List ℕ) → Walk 0 1 [] 0 entries places entries places
+pub walk_start : (entries places : List ℕ) → Walk [] 0 1 [] 0 entries places entries places
 walk_start entries places =
-    record { up = λ es spells. (es, spells, omega arith); down = λ all spells. (all, spells); size = refl; count = omega arith }
+    record { long = refl; up = λ es spells. spells; down = λ all spells. (all, spells); size = refl; count = omega arith }
 
-pub walk_on : (place at on : ℕ) (before key : Bytes) (above : ℕ) (rest left entries places : List ℕ) (p : Parts) (behind later : List ℕ)
-    → Walk place at before above rest left entries places → 0 < length rest → IsNext place before above rest p behind → left ≡ places_at place at ++ later
+pub walk_on : (front : List Entry) (place at on : ℕ) (before key : Bytes) (above : ℕ) (rest left entries places : List ℕ) (p : Parts) (behind later : List ℕ)
+    → Walk front place at before above rest left entries places → 0 < length rest → IsNext place before above rest p behind → left ≡ places_at place at ++ later
     → on ≡ at + (length rest - length behind) → key ≡ take p.shared before ++ p.rest
-    → Walk (place + 1) on key p.number behind later entries places
-walk_on place at on before key above rest left entries places p behind later walk some next placed moved is =
-    subst (λ (k : Bytes). Walk (place + 1) on k p.number behind later entries places) (sym is)
-    (subst (λ (n : ℕ). Walk n on (take p.shared before ++ p.rest) p.number behind later entries places) counted
+    → Walk (front ++ entry_from before p ∷ []) (place + 1) on key p.number behind later entries places
+walk_on front place at on before key above rest left entries places p behind later walk some next placed moved is =
+    subst (λ (k : Bytes). Walk (front ++ entry_from before p ∷ []) (place + 1) on k p.number behind later entries places) (sym is)
+    (subst (λ (n : ℕ). Walk (front ++ entry_from before p ∷ []) n on (take p.shared before ++ p.rest) p.number behind later entries places) counted
     (record {
+      long = omega (arith, length-append front (entry_from before p ∷ []), walk.long);
       up = λ es spells.
-          let all = walk.up (entry_from before p ∷ es) (step_up place at on before above rest left p behind later es next placed step spells) in
-          (all.0, all.1, omega (arith, all.2));
+          subst (λ l. Spells 0 1 [] 0 l entries places) (sym (append_assoc front (entry_from before p ∷ []) es))
+          (walk.up (entry_from before p ∷ es) (step_up place at on before above rest left p behind later es next placed step spells));
       down = λ all spells.
           let es = walk.down all spells in
           let more = step_down place at on before above rest left p behind later es.0 some next placed step es.1 in
@@ -156,22 +158,22 @@ walk_on place at on before key above rest left entries places p behind later wal
     step : on ≡ at + length (entry_bytes place before (entry_from before p))
     step = moved ∙ at_of place at before above rest p behind next
 
-pub walk_end : (place at : ℕ) (before : Bytes) (above : ℕ) (rest left entries places : List ℕ) → Walk place at before above rest left entries places → length rest ≡ 0 → length left ≡ 0
-    → (all : List Entry) × Spells 0 1 [] 0 all entries places × (length all ≡ place)
-walk_end place at before above [] [] entries places walk a b =
-    let all = walk.up [] (record { each = tt; spelled = sym (entries-none place before); placed = sym (restarts-none place at before) }) in
-    (all.0, all.1, omega (arith, all.2))
-walk_end place at before above (x ∷ rest) left entries places walk a b = absurd (omega (arith, a))
-walk_end place at before above [] (y ∷ left) entries places walk a b = absurd (omega (arith, b))
+pub walk_end : (front : List Entry) (place at : ℕ) (before : Bytes) (above : ℕ) (rest left entries places : List ℕ) → Walk front place at before above rest left entries places → length rest ≡ 0 → length left ≡ 0
+    → Spells 0 1 [] 0 front entries places
+walk_end front place at before above [] [] entries places walk a b =
+    subst (λ l. Spells 0 1 [] 0 l entries places) (append-nil front)
+    (walk.up [] (record { each = tt; spelled = sym (entries-none place before); placed = sym (restarts-none place at before) }))
+walk_end front place at before above (x ∷ rest) left entries places walk a b = absurd (omega (arith, a))
+walk_end front place at before above [] (y ∷ left) entries places walk a b = absurd (omega (arith, b))
 
 no_entries : (place at : ℕ) (before : Bytes) (above : ℕ) (rest left : List ℕ) (es : List Entry) → Spells place at before above es rest left → length rest ≡ 0 → length left ≡ 0
 no_entries place at before above rest left [] spells empty = ap length (spells.placed ∙ restarts-none place at before)
 no_entries place at before above rest left (e ∷ es) spells empty =
     absurd (omega (arith, empty, ap length (spells.spelled ∙ entries-one place before e es), length-append (entry_bytes place before e) (entries_bytes (suc place) e.key es), length-entry place before e))
 
-pub walk_stuck : (place at : ℕ) (before : Bytes) (above : ℕ) (rest left entries places : List ℕ) → Walk place at before above rest left entries places → length rest ≡ 0 → 0 < length left
+pub walk_stuck : (front : List Entry) (place at : ℕ) (before : Bytes) (above : ℕ) (rest left entries places : List ℕ) → Walk front place at before above rest left entries places → length rest ≡ 0 → 0 < length left
     → (all : List Entry) → Spells 0 1 [] 0 all entries places → ⊥
-walk_stuck place at before above rest left entries places walk empty some all spells =
+walk_stuck front place at before above rest left entries places walk empty some all spells =
     let es = walk.down all spells in
     omega (arith, no_entries place at before above rest left es.0 es.1 empty, some)
 

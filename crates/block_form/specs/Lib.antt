@@ -1,5 +1,6 @@
 pub mod Building
 pub mod Counting
+pub mod Ends
 pub mod Form
 pub mod Parts
 pub mod Rows

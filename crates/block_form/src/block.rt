@@ -4,15 +4,16 @@ ghost use Rattle.std.specs.Prelude.{◌≡◌, ◌⊎◌, ◌<◌, ◌≤◌, �
 ghost use Rattle.peb_base.specs.declared.entry.Entry.{Entry};
 ghost use Rattle.peb_base.specs.Entries.{comes_before};
 ghost use Rattle.peb_base.specs.EntryRefs.{entry_of};
-ghost use Rattle.peb_base.specs.Tables.{least_number, greatest_number};
+ghost use Rattle.block_form.specs.Ends.{TellsEnds};
 ghost use Rattle.block_form.specs.Form.{IsBlock, block_restarts, places_bytes};
 ghost use Rattle.block_form.specs.Spots.{offset_of};
 ghost use Rattle.block_form.specs.Walks.{entries_from};
 
 use crate::block_fault::BlockFault;
 use crate::parts::parts_of_block;
-use crate::reading::count_of;
-use crate::scan::{entry_at, numbers_in};
+use crate::ends::Ends;
+use crate::reading::ends_of;
+use crate::scan::entry_at;
 use crate::stepped::{peek, restart_at, step};
 use byteorder::{BigEndian, ByteOrder};
 use peb_base::{EntryRef, KeyBuf, Number, is_before};
@@ -49,21 +50,36 @@ impl<'a> Block<'a> {
         ensures block { IfOk result (λ block. IsBlock block bytes.now) }
         ensures form { IsErr result → (es : List Entry) → IsBlock es bytes.now → ⊥ }
     {
+        let mut room = KeyBuf::new();
+        let (block, _) = Block::read_ends(bytes, &mut room)?;
+        Ok(block)
+    }
+
+    /// Reads a block, and tells in the same pass its last key, which is left in `key_out`, the last number, and the least and greatest
+    /// number.
+    ///
+    /// `Form` comes exactly where no list of entries has these bytes as its spelling.
+    pub fn read_ends(bytes: &'a [u8], key_out: &mut KeyBuf) -> Result<(Block<'a>, Ends), BlockFault>
+        ensures block { IfOk result (λ read. IsBlock read.0 bytes.now) }
+        ensures ends { IfOk result (λ read. TellsEnds read.0 key_out.new read.1) }
+        ensures form { IsErr result → (es : List Entry) → IsBlock es bytes.now → ⊥ }
+    {
         let Some(parts) = parts_of_block(bytes) else {
             return Err(BlockFault::Form);
         };
         let (entries, places) = parts;
-        let Some(count) = count_of(entries, places) else {
+        let Some(ends) = ends_of(entries, places, key_out) else {
             return Err(BlockFault::Form);
         };
-        if count == 0 {
+        if ends.count == 0 {
             return Err(BlockFault::Form);
         }
-        Ok(Block {
+        let block = Block {
             entries,
             places,
-            count,
-        })
+            count: ends.count,
+        };
+        Ok((block, ends))
     }
 
     /// Reads a block again that is known to be one, of so many entries, without a walk over its bytes: its length and the
@@ -258,16 +274,6 @@ impl Block<'_> {
             at = self.step(i, at, key);
         }
         at
-    }
-
-    /// The least and the greatest number of the entries, of which there is one.
-    pub fn numbers(&self) -> (Number, Number)
-        requires { 0 < length self.now }
-        ensures least { result.0 ≡ least_number self.now }
-        ensures greatest { result.1 ≡ greatest_number self.now }
-    {
-        let (least, greatest) = numbers_in(self.entries, self.count);
-        (Number::of_packed(least), Number::of_packed(greatest))
     }
 }
 

@@ -7,6 +7,7 @@
 mod block;
 mod block_builder;
 mod block_fault;
+mod ends;
 mod fields;
 mod front;
 mod head;
@@ -24,4 +25,5 @@ mod writing;
 pub use block::Block;
 pub use block_builder::BlockBuilder;
 pub use block_fault::BlockFault;
+pub use ends::Ends;
 pub use laws::{block_grows, block_reads, one_block};

@@ -98,13 +98,14 @@ fn a_deletion_shares_the_key_before_it(rt: HostRuntime) -> Result<(), Fail> {
     ];
     let bytes = builder.finish();
     assert_eq!(rt; bytes, want.as_slice());
-    let block = Block::read(bytes)?;
-    assert_eq!(rt; block.len(), 2);
     let mut key = KeyBuf::new();
+    let (block, ends) = Block::read_ends(bytes, &mut key)?;
+    assert_eq!(rt; block.len(), 2);
+    assert_eq!(rt; key.bytes(), b"ac".as_slice());
+    assert_eq!(rt; (ends.last, ends.least, ends.greatest), (1, 1, 2));
     let found = block.entry_at(1, &mut key);
     assert_eq!(rt; found.key, b"ac".as_slice());
     assert!(rt; matches!(found.change, ChangeRef::Delete));
-    assert_eq!(rt; block.numbers(), (Number::new(0, 1), Number::new(0, 2)));
     let first = block.entry_at(0, &mut key);
     assert_eq!(rt; first.key, b"ab".as_slice());
     assert_eq!(rt; first.number(), Number::new(0, 2));

@@ -11,7 +11,7 @@ ghost use Rattle.peb_base.specs.declared.read_fault.ReadFault.TheVariants as fau
 use crate::agreeing::count_at;
 use block_pool::Loan;
 use disk_model::{Failed, Port};
-use peb_base::ReadFault;
+use peb_base::{KeyBuf, ReadFault};
 use table_file::Table;
 
 /// Reads so many bytes of a table, from a place on, into the front of a room.
@@ -52,12 +52,13 @@ fn read_into<P: Port>(
     read_front(port, file, at, len, loan.bytes_mut())
 }
 
-/// Reads the block at an index of a table into a loan, and gives the number of its entries.
+/// Reads the block at an index of a table into a loan, and gives the number of its entries. It needs room for a key.
 pub fn fetch<P: Port>(
     table: &Table<P::File>,
     port: &mut P,
     index: usize,
     loan: &mut Loan,
+    room: &mut KeyBuf,
 ) -> Result<usize, ReadFault>
     requires { index < length table.now.items }
     ensures fetched { IfOk result (λ count. Fetched P.File.TableHandle table.now index count loan.new) }
@@ -78,7 +79,7 @@ pub fn fetch<P: Port>(
     if read != len {
         return Err(damaged);
     }
-    match count_at(table, index, &loan.bytes()[..len]) {
+    match count_at(table, index, &loan.bytes()[..len], room) {
         Some(count) => Ok(count),
         None => Err(damaged),
     }

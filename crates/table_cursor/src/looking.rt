@@ -70,7 +70,7 @@ pub fn look_up<'k, P: Port>(
     if index >= table.blocks() {
         return Ok(None);
     }
-    let count = match fetch(table, port, index, loan) {
+    let count = match fetch(table, port, index, loan, key_out) {
         Ok(count) => count,
         Err(fault) => return Err(fault),
     };

@@ -136,7 +136,7 @@ impl Page {
         ensures sure { P.steady port.old → result ≡ Err faults.Fault → ⊥ }
     {
         self.count = 0;
-        let count = match fetch(table, port, index, &mut self.loan) {
+        let count = match fetch(table, port, index, &mut self.loan, &mut self.key) {
             Ok(count) => count,
             Err(fault) => return Err(fault),
         };

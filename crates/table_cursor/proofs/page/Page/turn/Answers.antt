@@ -12,7 +12,7 @@ use Rattle.table_cursor.specs.Page.{IsPage}
 use Rattle.table_cursor.proofs.page.Page.turn.Goals as goal
 
 pub invariant_of-self : goal.invariant_of-self
-invariant_of-self g c = empty_page c.self.inside.len c.self.inside.place c.self.inside.here c.fetch.new.loan c.self.inside.key c.self.invariant.fits
+invariant_of-self g c = empty_page c.self.inside.len c.self.inside.place c.self.inside.here c.fetch.new.loan c.fetch.new.room c.self.invariant.fits
 
 pub returns-in-Err-clause-empty : goal.returns-in-Err-clause-empty
 returns-in-Err-clause-empty g c = none_in (take c.self.inside.len c.fetch.new.loan)
