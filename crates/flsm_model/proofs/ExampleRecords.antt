@@ -39,7 +39,7 @@ abbrev chosen_shape : Shape
 chosen_shape = record (empty_shape small) { chosen = record { key = o_key; level = 1 } ∷ record { key = g_key; level = 2 } ∷ [] }
 
 abbrev candidates : ℕ → List Bool
-candidates level = map (is_candidate small chosen_shape level) (o_key ∷ g_key ∷ (97 ∷ []) ∷ [])
+candidates level = map (is_candidate chosen_shape.chosen level) (o_key ∷ g_key ∷ (97 ∷ []) ∷ [])
 
 candidates_of_1 : candidates 1 ≡ true ∷ false ∷ false ∷ []
 unfolding bits lib.Count.count_trailing_zeros

@@ -1,6 +1,6 @@
 -- A job in flight is not disturbed by the end of another one.
 use Rattle.std.proofs.Common.{◌≡◌, ℕ, suc, ◌≤◌, ◌≢◌, Bool, true, false, ◌&&◌, ◌||◌, not, List, [], ◌∷◌, ◌++◌, inl, inr, refl, sym, ◌∙◌, ap, subst, arith}
-use Rattle.std.specs.Prelude.{◌==◌, filter}
+use Rattle.std.specs.Prelude.{◌==◌, nat_le, filter}
 use Rattle.std.specs.List.{list_any, list_all}
 use Rattle.std.proofs.lemmas.Bool.{and_parts, and_from, or_left, or_right, or_cases, cases_Bool, eqb-true, eq-eqb, true≢false, false≢true, not-true}
 use Rattle.std.proofs.lemmas.List.Elements.{filter-append}
@@ -19,7 +19,7 @@ use Rattle.flsm_model.specs.declared.job_kind.JobKind.TheVariants.{Flush as Flus
 use Rattle.flsm_model.specs.declared.job.Job.{Job}
 use Rattle.flsm_model.specs.declared.mode.Mode.TheVariants.{Take, Append, Cut as CutClaim}
 use Rattle.flsm_model.specs.Shape.{Shape, grown, has_number, guards_at, rows_numbered, rows_without, inputs_of, outputs_of}
-use Rattle.flsm_model.specs.Fits.{fits, lies_in, is_chosen, is_guard, is_live, is_straddled, is_of_session}
+use Rattle.flsm_model.specs.Fits.{fits, lies_in, is_chosen, is_candidate, is_guard, is_live, is_straddled, is_of_session}
 use Rattle.flsm_model.specs.Events.{Session, Standing}
 use Rattle.flsm_model.specs.Claims.{claim, claims_at, claims_conflict, jobs_conflict}
 use Rattle.flsm_model.specs.Jobs.{IsRange, guards_in, job_range}
@@ -85,12 +85,19 @@ pub chosen_left : (cs ds : List Chosen) (k : Bytes) → is_chosen cs k ≡ true 
 chosen_left [] ds k h = absurd (false≢true h)
 chosen_left (c ∷ cs) ds k h = elim (or_cases (key_eq k c.key) (is_chosen cs k) h) [ inl s ↦ or_left _ _ s | inr r ↦ or_right (key_eq k c.key) _ (chosen_left cs ds k r) ]
 
-chosen_after : (s : Shape) (e : Edit) (k : Bytes) → is_chosen s.chosen k ≡ true → is_chosen (grown s e).chosen k ≡ true
-chosen_after s (Open a b) k h = h
-chosen_after s (Flush row from to log chosen) k h = chosen_left s.chosen chosen k h
-chosen_after s (Move level floor inputs outputs) k h = h
-chosen_after s (Cut level keys inputs outputs) k h = h
-chosen_after s (Merge floor whole inputs outputs) k h = h
+candidate_left : (cs ds : List Chosen) (level : ℕ) (k : Bytes) → is_candidate cs level k ≡ true → is_candidate (cs ++ ds) level k ≡ true
+candidate_left [] ds level k h = absurd (false≢true h)
+candidate_left (c ∷ cs) ds level k h = elim (or_cases (nat_le c.level level && key_eq k c.key) (is_candidate cs level k) h) [
+  | inl s ↦ or_left _ _ s
+  | inr r ↦ or_right (nat_le c.level level && key_eq k c.key) _ (candidate_left cs ds level k r)
+]
+
+candidate_after : (s : Shape) (e : Edit) (level : ℕ) (k : Bytes) → is_candidate s.chosen level k ≡ true → is_candidate (grown s e).chosen level k ≡ true
+candidate_after s (Open a b) level k h = h
+candidate_after s (Flush row from to log chosen) level k h = candidate_left s.chosen chosen level k h
+candidate_after s (Move at floor inputs outputs) level k h = h
+candidate_after s (Cut at keys inputs outputs) level k h = h
+candidate_after s (Merge floor whole inputs outputs) level k h = h
 
 -- what an edit of a job is
 pub data EditIs (j : Job) (e : Edit) : Type 0 where
@@ -323,8 +330,7 @@ module _ (o : Column) (w : Standing) (n : Session) (j k : Job) (e : Edit) (guard
         some = f.some;
         keys = all_of _ k.keys (λ a i.
             let p = cut_key o w.tree.shape k a f i in
-            let c = and_parts _ _ p.candidate in
-            and_from _ _ (and_from _ _ (and_from _ _ (and_from _ _ (chosen_after w.tree.shape e a c.0) c.1) p.inside) (no_guard a p.inside p.fresh (guards_turn o w.tree.shape e k.level guards en.outcome.formed.fit)))
+            and_from _ _ (and_from _ _ (and_from _ _ (candidate_after w.tree.shape e k.level a p.candidate) p.inside) (no_guard a p.inside p.fresh (guards_turn o w.tree.shape e k.level guards en.outcome.formed.fit)))
             (elim (or_cases _ _ p.next) [ inl x ↦ or_left _ _ x | inr y ↦ or_right (k.level == o.last_level) _ (guard_stays o w.tree.shape e (suc k.level) a guards en.outcome.formed.fit y) ]));
         straddled = subst (λ rs. list_all (λ r. list_any (straddles r) k.keys) rs ≡ true) (sym rows_stay) f.straddled;
         others = all_of _ (rows_without k.inputs (grown w.tree.shape e).live) (λ r i.

@@ -1,5 +1,5 @@
 -- The claims of a job: on which ranges of which levels it works, and with what it conflicts.
-use Rattle.std.specs.Prelude.{ℕ, suc, Bool, true, false, ◌&&◌, not, List, [], ◌∷◌, ◌==◌}
+use Rattle.std.specs.Prelude.{◌≡◌, ℕ, suc, Bool, true, false, ◌&&◌, not, List, [], ◌∷◌, ◌==◌}
 use Rattle.std.specs.List.{list_any, list_all}
 use Rattle.flsm_model.specs.declared.job_kind.JobKind.{JobKind}
 use Rattle.flsm_model.specs.declared.job_kind.JobKind.TheVariants.{Flush as FlushJob, Move as MoveJob, Cut as CutJob, Merge as MergeJob}
@@ -46,3 +46,11 @@ jobs_conflict j k = list_any (λ a. list_any (claims_conflict a) (claims_of k)) 
 -- the job conflicts with none of these
 abbrev pub is_free : Job → List Running → Bool
 is_free j rs = list_all (λ r. not (jobs_conflict j r.1)) rs
+
+-- the claim conflicts with no claim of these jobs
+abbrev pub is_claim_free : Claim → List Running → Bool
+is_claim_free c rs = list_all (λ r. not (list_any (claims_conflict c) (claims_of r.1))) rs
+
+-- a job is free exactly where each of its claims is
+abbrev pub FreeByClaims : Type 0
+FreeByClaims = (j : Job) (rs : List Running) → is_free j rs ≡ list_all (λ c. is_claim_free c rs) (claims_of j)

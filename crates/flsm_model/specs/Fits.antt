@@ -3,7 +3,7 @@ use Rattle.std.specs.Prelude.{◌≡◌, ℕ, suc, ◌+◌, ◌-◌, ◌*◌, �
 use Rattle.std.specs.List.{list_any, list_all}
 use Rattle.peb_base.specs.Keys.{Bytes, key_lt, key_le, key_eq}
 use Rattle.peb_base.specs.Numbers.{session_of, count_of}
-use Rattle.peb_base.specs.Choice.{meets, level_of}
+use Rattle.peb_base.specs.Choice.{level_of}
 use Rattle.peb_base.specs.Tables.{is_row}
 use Rattle.flsm_model.specs.Compaction.{straddles}
 use Rattle.peb_base.specs.declared.table_row.TableRow.{TableRow}
@@ -20,9 +20,9 @@ use Rattle.flsm_model.specs.Shape.{Record, Shape, empty_shape, guards_at, has_nu
 abbrev pub is_chosen : List Chosen → Bytes → Bool
 is_chosen cs key = list_any (λ c. key_eq key c.key) cs
 
--- the key may become a guard of the level: it was chosen, and its bits meet the level's need
-abbrev pub is_candidate : Column → Shape → ℕ → Bytes → Bool
-is_candidate o s level key = is_chosen s.chosen key && meets o level key
+-- the key is a candidate for a guard of the level: it was chosen with this level or with a shallower one
+abbrev pub is_candidate : List Chosen → ℕ → Bytes → Bool
+is_candidate cs level key = list_any (λ c. nat_le c.level level && key_eq key c.key) cs
 
 -- the key is a guard of the level
 abbrev pub is_guard : Shape → ℕ → Bytes → Bool
@@ -122,7 +122,7 @@ are_choices o s chosen =
 -- the key may be cut at the level: a candidate in the range that is no guard there yet, and is one of the next level
 abbrev pub may_be_cut : Column → Shape → ℕ → Bytes × Option Bytes → Bytes → Bool
 may_be_cut o s level range key =
-    is_candidate o s level key && in_range range.0 range.1 key && not (is_guard s level key)
+    is_candidate s.chosen level key && in_range range.0 range.1 key && not (is_guard s level key)
     && (level == o.last_level || is_guard s (suc level) key)
 
 -- the row of a piece of a cut: at the level, in the range that is cut, and in one of the guards after the cut

@@ -1,8 +1,7 @@
 -- Which jobs may begin.
-use Rattle.std.specs.Prelude.{◌≡◌, ℕ, zero, suc, ◌+◌, ◌-◌, ◌*◌, ◌^◌, ◌<◌, min, Bool, true, ◌&&◌, ◌||◌, not, List, [], ◌∷◌, length, filter, ◌==◌, Option, None, IsSome}
+use Rattle.std.specs.Prelude.{◌≡◌, ℕ, zero, suc, ◌+◌, ◌-◌, ◌*◌, ◌^◌, ◌<◌, min, Bool, true, ◌&&◌, ◌||◌, not, List, [], ◌∷◌, length, filter, nat_le, ◌==◌, Option, None, IsSome}
 use Rattle.std.specs.List.{list_all}
 use Rattle.peb_base.specs.Keys.{Bytes}
-use Rattle.peb_base.specs.Choice.{meets}
 use Rattle.peb_base.specs.Profiles.{Column}
 use Rattle.flsm_model.specs.declared.edit.Edit.TheVariants.{Move, Cut, Merge}
 use Rattle.flsm_model.specs.declared.job_kind.JobKind.{JobKind}
@@ -61,7 +60,7 @@ is_guard_from s key level (suc count) = is_guard s level key && is_guard_from s 
 -- each candidate of the level in the range is a guard of it and of every deeper one
 abbrev pub are_committed : Column → Shape → ℕ → Bytes × Option Bytes → Bool
 are_committed o s level range =
-    list_all (λ c. not (meets o level c.key && in_range range.0 range.1 c.key) || is_guard_from s c.key level (suc o.last_level - level)) s.chosen
+    list_all (λ c. not (nat_le c.level level && in_range range.0 range.1 c.key) || is_guard_from s c.key level (suc o.last_level - level)) s.chosen
 
 -- ---- kinds
 

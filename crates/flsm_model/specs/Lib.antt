@@ -29,3 +29,4 @@ pub mod Settling
 pub mod LastLevel
 pub mod Picked
 pub mod Contents
+pub mod Candidates

@@ -2,14 +2,13 @@
 use Rattle.std.specs.Prelude.{ℕ, zero, suc, ◌+◌, ◌-◌, ◌*◌, ◌^◌, Bool, true, false, ◌&&◌, not, if◌then◌else◌, List, [], ◌∷◌, ◌++◌, length, map, filter, find, nat_lt, nat_le, ◌==◌, Option, Some, None}
 use Rattle.peb_base.specs.Keys.{Bytes}
 use Rattle.peb_base.specs.Profiles.{Column}
-use Rattle.peb_base.specs.Choice.{meets}
 use Rattle.peb_base.specs.declared.table_row.TableRow.{TableRow}
 use Rattle.flsm_model.specs.declared.job_kind.JobKind.{JobKind}
 use Rattle.flsm_model.specs.declared.job_kind.JobKind.TheVariants.{Flush as FlushJob, Move as MoveJob, Cut as CutJob, Merge as MergeJob}
 use Rattle.flsm_model.specs.declared.job.Job.{Job}
 use Rattle.flsm_model.specs.Ranges.{in_range, with_keys, range_of}
 use Rattle.flsm_model.specs.Shape.{Shape, guards_at}
-use Rattle.flsm_model.specs.Fits.{is_guard, lies_in, is_straddled, may_be_cut}
+use Rattle.flsm_model.specs.Fits.{is_candidate, is_guard, lies_in, is_straddled, may_be_cut}
 use Rattle.flsm_model.specs.Events.{Session, Standing, last_of}
 use Rattle.flsm_model.specs.Claims.{is_free}
 use Rattle.flsm_model.specs.Jobs.{floor_of, guards_in}
@@ -80,8 +79,9 @@ merge_job o s range = job_over MergeJob o.last_level range (numbers_of (rows_in 
 -- ---- targets
 
 -- the candidates of a level in the range that are no guards of another level
-abbrev pub missing : Column → Shape → ℕ → Bytes × Option Bytes → ℕ → List Bytes
-missing o s level range other = chosen_keys (λ key. meets o level key && in_range range.0 range.1 key && not (is_guard s other key)) s
+abbrev pub missing : Shape → ℕ → Bytes × Option Bytes → ℕ → List Bytes
+missing s level range other =
+    chosen_keys (λ key. is_candidate s.chosen level key && in_range range.0 range.1 key && not (is_guard s other key)) s
 
 -- the Cut of the level of which the first of these keys is missing, or else another job
 abbrev pub cut_or : Column → Shape → ℕ → List Bytes → Job → Job
@@ -91,7 +91,7 @@ cut_or o s level (key ∷ keys) other = cut_job o s level (range_of (guards_at s
 -- the job of a target: of `count` levels from the level on the deepest one where a candidate of the level is missing is cut, else the job is the Move
 abbrev pub job_at : Column → Shape → ℕ → Bytes × Option Bytes → ℕ → Job → Job
 job_at o s level range zero move = move
-job_at o s level range (suc count) move = cut_or o s (level + count) (missing o s level range (level + count)) (job_at o s level range count move)
+job_at o s level range (suc count) move = cut_or o s (level + count) (missing s level range (level + count)) (job_at o s level range count move)
 
 -- the jobs of the targets of `count` levels from the level on, each range that holds too many tables
 abbrev pub target_jobs : Column → Shape → ℕ → ℕ → List Job

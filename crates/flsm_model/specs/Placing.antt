@@ -34,16 +34,16 @@ PlaceInGuards o w =
     → lies_in (range_of (guards_at w.tree.shape r.level) r.smallest) r ≡ true
 
 -- a Move finds each candidate of the next level that is the key of a put of its inputs among that level's guards
-abbrev pub CutBefore : Column → Tree → Edit → Type 0
-CutBefore o t (Move level floor inputs outputs) =
+abbrev pub CutBefore : Tree → Edit → Type 0
+CutBefore t (Move level floor inputs outputs) =
     (u : Table) (x : Entry) → IsIn u t.tables → has_number u.row.number inputs ≡ true → IsIn x u.entries → is_put x.change ≡ true
-    → is_candidate o t.shape (suc level) x.key ≡ true → is_guard t.shape (suc level) x.key ≡ true
-CutBefore o t e = ⊤
+    → is_candidate t.shape.chosen (suc level) x.key ≡ true → is_guard t.shape (suc level) x.key ≡ true
+CutBefore t e = ⊤
 
 -- each of the edits does
 abbrev pub CutBeforeFrom : Column → Batches → Tree → Record → Type 0
 CutBeforeFrom o bs t [] = ⊤
-CutBeforeFrom o bs t (e ∷ es) = CutBefore o t e × CutBeforeFrom o bs (installed o bs t e) es
+CutBeforeFrom o bs t (e ∷ es) = CutBefore t e × CutBeforeFrom o bs (installed o bs t e) es
 
 -- each Move since the base found its candidates cut
 pub record MovesAreCut (o : Column) (r : Record) (w : Standing) : Type 0 where

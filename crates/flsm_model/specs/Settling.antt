@@ -1,7 +1,5 @@
 -- How much there is to do until the store is settled.
-use Rattle.std.specs.Prelude.{◌≡◌, ℕ, zero, suc, ◌+◌, ◌*◌, ◌<◌, ◌≤◌, true, ◌&&◌, not, if◌then◌else◌, List, [], ◌∷◌, ◌++◌, length, nat_lt, ◌==◌, ◌⊎◌, ⊤, Some}
-use Rattle.peb_base.specs.Keys.{Bytes}
-use Rattle.peb_base.specs.Choice.{meets}
+use Rattle.std.specs.Prelude.{◌≡◌, ℕ, zero, suc, ◌+◌, ◌*◌, ◌<◌, ◌≤◌, true, ◌&&◌, not, if◌then◌else◌, List, [], ◌∷◌, ◌++◌, length, nat_lt, nat_le, ◌==◌, ◌⊎◌, ⊤, Some}
 use Rattle.peb_base.specs.Members.{IsIn}
 use Rattle.peb_base.specs.Profiles.{column, Column}
 use Rattle.peb_base.specs.declared.profile.Profile.{Profile}
@@ -33,14 +31,14 @@ entries_above level rows = total (λ (r : TableRow). if nat_lt r.level level the
 abbrev pub levels_to_go : Column → ℕ → Shape → ℕ
 levels_to_go o frozen s = sum_to (λ level. frozen + entries_above level s.live) o.last_level
 
--- at how many levels from 1 up to this one the key is wanted as a guard and is none
-abbrev pub levels_open : Column → Shape → Bytes → ℕ → ℕ
-levels_open o s key zero = 0
-levels_open o s key (suc level) = one_if (meets o (suc level) key && not (is_guard s (suc level) key)) + levels_open o s key level
+-- at how many levels from 1 up to this one the chosen key is a candidate and no guard
+abbrev pub levels_open : Shape → Chosen → ℕ → ℕ
+levels_open s c zero = 0
+levels_open s c (suc level) = one_if (nat_le c.level (suc level) && not (is_guard s (suc level) c.key)) + levels_open s c level
 
 -- the candidates that are not committed, counted per level
 abbrev pub uncommitted : Column → Shape → ℕ
-uncommitted o s = total (λ (c : Chosen). levels_open o s c.key o.last_level) s.chosen
+uncommitted o s = total (λ (c : Chosen). levels_open s c o.last_level) s.chosen
 
 -- the tables of the last level among these
 abbrev pub last_tables : Column → List TableRow → ℕ

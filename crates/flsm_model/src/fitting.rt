@@ -4,7 +4,6 @@ ghost use Rattle.std.specs.Prelude.{◌≡◌, ℕ, Bool, ◌==◌, ◌&&◌, �
 ghost use Rattle.std.specs.Option.{option_copied};
 ghost use Rattle.std.specs.List.{list_all, list_any};
 ghost use Rattle.peb_base.specs.Profiles.{column};
-ghost use Rattle.peb_base.specs.Choice as choice;
 ghost use Rattle.flsm_model.specs.Shape as shapes;
 ghost use Rattle.peb_base.specs.Keys.{key_lt};
 ghost use Rattle.flsm_model.specs.Ranges as ranges;
@@ -22,10 +21,10 @@ use crate::rows::{
     is_some_list, is_straddled, lie_apart, lie_in, numbers_differ,
 };
 use crate::searches::{
-    has_key, has_number, is_chosen, is_live, keys_ascend, numbers_ascend, rows_ascend,
+    has_key, has_number, is_candidate, is_chosen, is_live, keys_ascend, numbers_ascend, rows_ascend,
 };
 use crate::shape::Shape;
-use peb_base::{Key, Memory, TableRow, bits, level_of};
+use peb_base::{Key, Memory, TableRow, level_of};
 
 impl Shape {
     /// Whether the row is in its form and has a number of the session that isn't used.
@@ -97,23 +96,11 @@ impl Shape {
             && self.inputs_lie_together(level, inputs)
     }
 
-    /// Whether the bits of the key meet the need of the level.
-    fn meets(&self, level: u8, key: &[u8]) -> bool
-        ensures { result ≡ choice.meets (column self.now.options.profile) level key.now }
-    {
-        let steps = (level as u32).saturating_sub(1);
-        self.options
-            .top_bits
-            .saturating_sub(self.options.decrement * steps)
-            <= bits(self.options.hash, key)
-    }
-
     /// Whether the key may be cut at the level.
     fn may_be_cut(&self, level: u8, range: &Range, key: &[u8]) -> bool
         ensures { result ≡ fits.may_be_cut (column self.now.options.profile) (told self.now) level (range.now.lo.now, option_copied range.now.hi) key.now }
     {
-        is_chosen(self.chosen.items(), key)
-            && self.meets(level, key)
+        is_candidate(self.chosen.items(), level, key)
             && range.has(key)
             && !has_key(key, self.guards_at(level as usize))
             && (level == self.options.last_level

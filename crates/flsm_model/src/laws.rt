@@ -14,7 +14,9 @@ ghost use Rattle.flsm_model.specs.Made.{OutcomesFit, OutcomesStay};
 ghost use Rattle.flsm_model.specs.LastLevel.{WrittenByMerges};
 ghost use Rattle.flsm_model.specs.Fronts.{EmptyIsTrue, FrontsAreLegal, MarksInOrder};
 ghost use Rattle.flsm_model.specs.Settling.{EditsSettle, MeasureFalls, OutcomesConserve};
-ghost use Rattle.flsm_model.specs.Picked.{PickedIsLawful, IdleHasRoom};
+ghost use Rattle.flsm_model.specs.Picked.{PickedIsLawful, IdleHasRoom, ChosenAscend, AscendingAreEqual};
+ghost use Rattle.flsm_model.specs.Candidates.{CandidatesMeet};
+ghost use Rattle.flsm_model.specs.Claims.{FreeByClaims};
 ghost use Rattle.flsm_model.specs.Contents.{TablesStand, NewestIsShown};
 ghost use Rattle.flsm_model.specs.Sound.{RecordsSound, RecordsNested, RecordsBounded};
 
@@ -122,4 +124,17 @@ pub fn law_tables()
 /// A key's value in what entries show at a number is that of its newest entry at or below it.
 pub fn law_lookup()
     ensures { NewestIsShown }
+{}
+
+/// Where each key stands with the shallowest level that it meets, as those of a legal record do, the candidates of a level are the chosen
+/// keys that meet the level's need. The chosen keys for which a test holds ascend, and an ascending list is known by its keys.
+pub fn law_candidates()
+    ensures meet { CandidatesMeet }
+    ensures ascend { ChosenAscend }
+    ensures equal { AscendingAreEqual }
+{}
+
+/// A job is free exactly where each of its claims is, so that claims can be tested before inputs and keys are collected.
+pub fn law_claims()
+    ensures { FreeByClaims }
 {}

@@ -1,12 +1,11 @@
--- What the laws of candidates say.
+-- What candidates are by the bits of their keys.
 use Rattle.std.specs.Prelude.{◌≡◌, ℕ, ◌≤◌, ◌&&◌, List, Some}
 use Rattle.std.specs.List.{AllByRecursion}
 use Rattle.peb_base.specs.Keys.{Bytes}
 use Rattle.peb_base.specs.Choice.{meets, level_of}
 use Rattle.peb_base.specs.Profiles.{Column}
-use Rattle.flsm_model.specs.Fits.{is_chosen}
+use Rattle.flsm_model.specs.Fits.{is_chosen, is_candidate}
 use Rattle.flsm_model.specs.declared.chosen.Chosen.{Chosen}
-use Rattle.guard_choice.specs.Candidates.{is_candidate}
 
 -- each key stands with the shallowest level whose need it meets
 abbrev pub StandAtTheirLevels : Column → List Chosen → Type 0
