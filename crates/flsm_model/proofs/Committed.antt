@@ -18,9 +18,9 @@ use Rattle.flsm_model.specs.declared.edit.Edit.TheVariants.{Open, Flush, Move, C
 use Rattle.flsm_model.specs.declared.job_kind.JobKind.{JobKind}
 use Rattle.flsm_model.specs.declared.job_kind.JobKind.TheVariants.{Flush as FlushJob, Move as MoveJob, Cut as CutJob, Merge as MergeJob}
 use Rattle.flsm_model.specs.declared.job.Job.{Job}
-use Rattle.flsm_model.specs.Shape.{Record, Shape, grown, shape_from, shape_of, empty_shape, has_number}
+use Rattle.flsm_model.specs.Shape.{Record, Shape, shape_after, shape_from, shape_of, empty_shape, has_number}
 use Rattle.flsm_model.specs.Fits.{fits, fit_from, is_chosen, is_guard}
-use Rattle.flsm_model.specs.Trees.{Table, Tree, contents, installed, tree_of, tree_from, empty_tree}
+use Rattle.flsm_model.specs.Trees.{Table, Tree, contents, tree_after, tree_of, tree_from, empty_tree}
 use Rattle.flsm_model.specs.Choices.{put_keys, choices, chosen_at, chosen_by, Chooses}
 use Rattle.flsm_model.specs.TrueRecord.{DescribedFrom}
 use Rattle.peb_base.specs.Members.{IsIn}
@@ -28,7 +28,7 @@ use Rattle.flsm_model.specs.Events.{Event, Opened, Commit, Synced, Look, Hold, R
 use Rattle.flsm_model.specs.Jobs.{is_guard_from, IsLawful, IsMove, IsOfKind}
 use Rattle.flsm_model.specs.Outcomes.{IsEditOf, IsOutcome}
 use Rattle.flsm_model.specs.Legal.{Allowed, IsLegal, last_running}
-use Rattle.flsm_model.specs.Steps.{step, run, edited}
+use Rattle.flsm_model.specs.Steps.{step, run, with_edit}
 use Rattle.flsm_model.specs.Placing.{CutBefore, CutBeforeFrom, MovesAreCut, AlwaysCut}
 use Rattle.flsm_model.proofs.Members.{in_paired, from_move, from_merge, from_cut}
 use Rattle.flsm_model.proofs.Facts.{move_facts}
@@ -114,7 +114,7 @@ flush_chooses o s es x d i p m = elim (cases_Bool (is_chosen s.chosen x.key)) [
       (choice_in o x.key l.0 (filter (λ k. not (is_chosen s.chosen k)) (put_keys es)) (in_kept (λ k. not (is_chosen s.chosen k)) x.key (put_keys es) (put_key_in x es i p) (ap not absent)) l.1)
 ]
 
-pub puts_step : (o : Column) (bs : Batches) (t : Tree) (e : Edit) → 0 < o.last_level → Chooses o bs t e → PutsChosen o t → PutsChosen o (installed o bs t e)
+pub puts_step : (o : Column) (bs : Batches) (t : Tree) (e : Edit) → 0 < o.last_level → Chooses o bs t e → PutsChosen o t → PutsChosen o (tree_after o bs t e)
 puts_step o bs t (Open session log) d c h =
     record { chosen = λ u x i q. elim (after o bs t (Open session log) u i) [ inl a ↦ h.chosen u x a.0 q | inr b ↦ absurd b ] }
 puts_step o bs t (Flush row from to log chosen) d c h =
@@ -152,7 +152,7 @@ puts_step o bs t (Merge floor whole inputs outputs) d c h =
 
 puts_from : (o : Column) (bs : Batches) (t : Tree) (r : Record) → 0 < o.last_level → DescribedFrom o bs t r → PutsChosen o t → PutsChosen o (tree_from o bs t r)
 puts_from o bs t [] d h p = p
-puts_from o bs t (e ∷ es) d h p = puts_from o bs (installed o bs t e) es d h.2 (puts_step o bs t e d h.1 p)
+puts_from o bs t (e ∷ es) d h p = puts_from o bs (tree_after o bs t e) es d h.2 (puts_step o bs t e d h.1 p)
 
 pub puts_now : (o : Column) (w : Standing) → 0 < o.last_level → All o w → PutsChosen o w.tree
 puts_now o w d h =
@@ -193,7 +193,7 @@ cut_starts o d w n j al eq l = record { cut = λ k u x i m q p me. by k (subst (
           | inr g ↦ subst (λ z. is_guard w.tree.shape (suc j.level) z ≡ true) (sym same) (first_guard w.tree.shape c.0.key (suc j.level) (suc o.last_level - suc j.level) (omega (arith, f.above)) g)
         ]
 
-cut_kept : (o : Column) (w : Standing) (n : Session) (j k : Job) (e : Edit) → All o w → w.session ≡ Some n → Ends o w n j k e → IsCutFor o w.tree j → IsCutFor o w.tree k → IsCutFor o (installed o w.batches w.tree e) k
+cut_kept : (o : Column) (w : Standing) (n : Session) (j k : Job) (e : Edit) → All o w → w.session ≡ Some n → Ends o w n j k e → IsCutFor o w.tree j → IsCutFor o w.tree k → IsCutFor o (tree_after o w.batches w.tree e) k
 cut_kept o w n j k e al eq en hj hk =
     let jobs : JobsIn o w.tree n = subst (JobsHold o w.tree) eq al.holds.jobs in
     record {
@@ -245,26 +245,26 @@ cut_same : (o : Column) (bs cs : Batches) (k : ℕ) (t : Tree) (r : Record) → 
 cut_same o bs cs k t [] a f l d = tt
 cut_same o bs cs k t (e ∷ es) a f l d =
     let p = and_parts (fits o t.shape e) _ f in
-    let le : (grown t.shape e).to ≤ k = omega (arith, to_grows_from o (grown t.shape e) es p.1) in
-    (d.0, subst (λ u. CutBeforeFrom o cs u es) (installed_same o bs cs k t e a le) (cut_same o bs cs k (installed o bs t e) es a p.1 l d.1))
+    let le : (shape_after t.shape e).to ≤ k = omega (arith, to_grows_from o (shape_after t.shape e) es p.1) in
+    (d.0, subst (λ u. CutBeforeFrom o cs u es) (installed_same o bs cs k t e a le) (cut_same o bs cs k (tree_after o bs t e) es a p.1 l d.1))
 
 cut_push : (o : Column) (bs : Batches) (t : Tree) (r : Record) (e : Edit) → CutBeforeFrom o bs t r → CutBefore (tree_from o bs t r) e → CutBeforeFrom o bs t (r ++ e ∷ [])
 cut_push o bs t [] e d c = (c, tt)
-cut_push o bs t (x ∷ r) e d c = (d.0, cut_push o bs (installed o bs t x) r e d.1 c)
+cut_push o bs t (x ∷ r) e d c = (d.0, cut_push o bs (tree_after o bs t x) r e d.1 c)
 
 tree_append : (o : Column) (bs : Batches) (t : Tree) (r es : Record) → tree_from o bs t (r ++ es) ≡ tree_from o bs (tree_from o bs t r) es
 tree_append o bs t [] es = refl
-tree_append o bs t (x ∷ r) es = tree_append o bs (installed o bs t x) r es
+tree_append o bs t (x ∷ r) es = tree_append o bs (tree_after o bs t x) r es
 
 shape_append : (s : Shape) (r es : Record) → shape_from s (r ++ es) ≡ shape_from (shape_from s r) es
 shape_append s [] es = refl
-shape_append s (x ∷ r) es = shape_append (grown s x) r es
+shape_append s (x ∷ r) es = shape_append (shape_after s x) r es
 
 pub fit_append : (o : Column) (s : Shape) (r es : Record) → fit_from o s (r ++ es) ≡ true → (fit_from o s r ≡ true) × (fit_from o (shape_from s r) es ≡ true)
 fit_append o s [] es h = (refl, h)
 fit_append o s (x ∷ r) es h =
     let p = and_parts (fits o s x) _ h in
-    let q = fit_append o (grown s x) r es p.1 in
+    let q = fit_append o (shape_after s x) r es p.1 in
     (and_from _ _ p.0 q.0, q.1)
 
 assoc : (r es : Record) (e : Edit) → (r ++ es) ++ e ∷ [] ≡ r ++ (es ++ e ∷ [])
@@ -344,7 +344,7 @@ moves_step o r w (Stop m (Some e)) al ea h a = by w.session a ea al.shows.sessio
     by None x y z = absurd x
     by (Some n) x y z =
         let out = job_in (last_running n) x.2.0 (λ q. IsOutcome o w n q e) x.2.1 in
-        let mid : Standing = edited o w e in
+        let mid : Standing = with_edit o w e in
         let one : MovesAreCut o r mid = moves_edit o r w e mid refl refl al (cut_outcome o w n out.0 e al out.2 (last_each (IsCutFor o) w.tree n y (x.2.0, out.0) out.1)) h in
         let books : Books o mid.batches mid.edits mid.tree = books_edit o w.batches w.edits w.tree e al.told.books out.2.formed.fit (out.2.holds al.holds.tells) (out.2.chooses al.holds.tells) in
         moves_batches o r mid _ m refl (agree_drop 0 m w.batches al.placed.ordered x.0) (omega (arith, to_after o w n out.0 e out.2.formed.same z, x.1)) books one

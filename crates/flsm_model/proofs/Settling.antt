@@ -12,7 +12,7 @@ use Rattle.flsm_model.specs.declared.chosen.Chosen.{Chosen}
 use Rattle.flsm_model.specs.declared.edit.Edit.{Edit}
 use Rattle.flsm_model.specs.declared.edit.Edit.TheVariants.{Open, Flush, Move, Cut, Merge}
 use Rattle.flsm_model.specs.Ranges.{has_key, first_of, with_key, with_keys, range_of}
-use Rattle.flsm_model.specs.Shape.{Record, Shape, empty_shape, shape_from, shape_of, outputs_of, grown, guards_at, has_number, rows_numbered, rows_without}
+use Rattle.flsm_model.specs.Shape.{Record, Shape, empty_shape, shape_from, shape_of, outputs_of, shape_after, guards_at, has_number, rows_numbered, rows_without}
 use Rattle.peb_base.specs.Tables.{is_row}
 use Rattle.flsm_model.specs.Fits.{fits, fit_from, is_new, is_of_session, rows_are_new, is_guard, is_live, is_some_list, is_straddled}
 use Rattle.flsm_model.specs.Writes.{total, one_if}
@@ -107,7 +107,7 @@ has_entry s (n ∷ ns) w a h =
 
 flush_lessens : (o : Column) (s : Shape) (frozen : ℕ) (row : TableRow) (from to log : ℕ) (chosen : List Chosen)
     → fits o s (Flush row from to log chosen) ≡ true → 0 < frozen → row.entries ≤ frozen
-    → Lessens o frozen s 0 (grown s (Flush row from to log chosen))
+    → Lessens o frozen s 0 (shape_after s (Flush row from to log chosen))
 flush_lessens o s frozen row from to log chosen f some few = inl (sum_lt (λ l. 0 + entries_above l after) (λ l. frozen + entries_above l s.live) o.last_level 0 each (omega arith) strict)
   where
     after : List TableRow
@@ -127,7 +127,7 @@ flush_lessens o s frozen row from to log chosen f some few = inl (sum_lt (λ l. 
 move_lessens : (o : Column) (s : Shape) (frozen level floor : ℕ) (inputs : List ℕ) (outputs : List TableRow)
     → fits o s (Move level floor inputs outputs) ≡ true → ((r : TableRow) → IsIn r s.live → 0 < r.entries)
     → entries_in outputs ≤ entries_in (rows_numbered inputs s.live)
-    → Lessens o frozen s frozen (grown s (Move level floor inputs outputs))
+    → Lessens o frozen s frozen (shape_after s (Move level floor inputs outputs))
 move_lessens o s frozen level floor inputs outputs f made few =
     let k = move_facts o s level floor inputs outputs f in
     inl (sum_lt (λ l. frozen + entries_above l after) (λ l. frozen + entries_above l s.live) o.last_level (suc level) (each k.at k.below) (omega (arith, k.above))
@@ -165,7 +165,7 @@ last_few o (r ∷ rs) = by (r.level == o.last_level) (last_few o rs)
 
 merge_lessens : (o : Column) (s : Shape) (frozen floor : ℕ) (whole : Bool) (inputs : List ℕ) (outputs : List TableRow)
     → fits o s (Merge floor whole inputs outputs) ≡ true → 2 ≤ last_tables o (rows_numbered inputs s.live)
-    → Lessens o frozen s frozen (grown s (Merge floor whole inputs outputs))
+    → Lessens o frozen s frozen (shape_after s (Merge floor whole inputs outputs))
 merge_lessens o s frozen floor whole inputs outputs f two =
     let k = merge_facts o s floor whole inputs outputs f in
     let p2 = and_parts _ _ (and_parts _ _ (and_parts _ _ (and_parts _ _ f).0).0).0 in
@@ -236,7 +236,7 @@ module _ (o : Column) (s s2 : Shape) (stays : (l : ℕ) (k : Bytes) → is_guard
 
 cut_lessens : (o : Column) (s : Shape) (frozen level : ℕ) (keys : List Bytes) (inputs : List ℕ) (outputs : List TableRow)
     → InGuards o s → fits o s (Cut level keys inputs outputs) ≡ true → entries_in outputs ≤ entries_in (rows_numbered inputs s.live)
-    → Lessens o frozen s frozen (grown s (Cut level keys inputs outputs))
+    → Lessens o frozen s frozen (shape_after s (Cut level keys inputs outputs))
 cut_lessens o s frozen level keys inputs outputs g f few =
     let k = cut_facts o s level keys inputs outputs f in
     let at : list_all (λ r. r.level == level) (rows_numbered inputs s.live) ≡ true =
@@ -261,7 +261,7 @@ cut_lessens o s frozen level keys inputs outputs g f few =
     e = Cut level keys inputs outputs
 
     s2 : Shape
-    s2 = grown s e
+    s2 = shape_after s e
 
     after : List TableRow
     after = rows_without inputs s.live ++ outputs
@@ -313,7 +313,7 @@ new_entries session used x h =
 -- live tables have entries
 has_entries : (o : Column) (s : Shape) (r : Record) → fit_from o s r ≡ true → ((x : TableRow) → IsIn x s.live → 0 < x.entries) → (x : TableRow) → IsIn x (shape_from s r).live → 0 < x.entries
 has_entries o s [] f h = h
-has_entries o s (e ∷ es) f h = let p = and_parts (fits o s e) _ f in has_entries o (grown s e) es p.1 (one e p.0)
+has_entries o s (e ∷ es) f h = let p = and_parts (fits o s e) _ f in has_entries o (shape_after s e) es p.1 (one e p.0)
   where
     some : (outputs : List TableRow) → rows_are_new s.session s.used outputs ≡ true → (x : TableRow) → IsIn x outputs → 0 < x.entries
     some outputs new x i = new_entries s.session s.used x (all_in (is_new s.session s.used) x outputs (and_parts (list_all (is_new s.session s.used) outputs) _ new).0 i)
@@ -324,7 +324,7 @@ has_entries o s (e ∷ es) f h = let p = and_parts (fits o s e) _ f in has_entri
       | inr b ↦ some outputs new x b
     ]
 
-    one : (e : Edit) → fits o s e ≡ true → (x : TableRow) → IsIn x (grown s e).live → 0 < x.entries
+    one : (e : Edit) → fits o s e ≡ true → (x : TableRow) → IsIn x (shape_after s e).live → 0 < x.entries
     one (Open session log) f = h
     one (Flush row from to log chosen) f = more [] (row ∷ []) (flush_facts o s row from to log chosen f).fresh
     one (Move level floor inputs outputs) f = more inputs outputs (move_facts o s level floor inputs outputs f).fresh
@@ -332,7 +332,7 @@ has_entries o s (e ∷ es) f h = let p = and_parts (fits o s e) _ f in has_entri
     one (Merge floor whole inputs outputs) f = more inputs outputs (merge_facts o s floor whole inputs outputs f).fresh
 
 settles : (o : Column) (s : Shape) (e : Edit) (frozen : ℕ) → InGuards o s → ((x : TableRow) → IsIn x s.live → 0 < x.entries) → fits o s e ≡ true → HasWork o s frozen e
-    → entries_in (outputs_of e) ≤ entries_taken s frozen e → Lessens o frozen s (frozen_after frozen e) (grown s e)
+    → entries_in (outputs_of e) ≤ entries_taken s frozen e → Lessens o frozen s (frozen_after frozen e) (shape_after s e)
 settles o s (Open session log) frozen g some f w few = absurd w
 settles o s (Flush row from to log chosen) frozen g some f w few = flush_lessens o s frozen row from to log chosen f w (omega (arith, few))
 settles o s (Move level floor inputs outputs) frozen g some f w few = move_lessens o s frozen level floor inputs outputs f some few

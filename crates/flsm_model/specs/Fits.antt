@@ -12,7 +12,7 @@ use Rattle.flsm_model.specs.declared.chosen.Chosen.{Chosen}
 use Rattle.flsm_model.specs.declared.edit.Edit.{Edit}
 use Rattle.flsm_model.specs.declared.edit.Edit.TheVariants.{Open, Flush, Move, Cut, Merge}
 use Rattle.flsm_model.specs.Ranges.{is_below, in_range, has_key, neighbours, keys_ascend, first_of, with_keys, range_of}
-use Rattle.flsm_model.specs.Shape.{Record, Shape, empty_shape, guards_at, has_number, is_numbered, rows_numbered, rows_without, grown, shape_of}
+use Rattle.flsm_model.specs.Shape.{Record, Shape, empty_shape, guards_at, has_number, is_numbered, rows_numbered, rows_without, shape_after, shape_of}
 
 -- ---- guards and candidates
 
@@ -160,7 +160,7 @@ fits o s (Merge floor whole inputs outputs) =
 -- each of the edits fits those before it
 abbrev pub fit_from : Column → Shape → Record → Bool
 fit_from o s [] = true
-fit_from o s (e ∷ es) = fits o s e && fit_from o (grown s e) es
+fit_from o s (e ∷ es) = fits o s e && fit_from o (shape_after s e) es
 
 -- each edit of the record fits those before it
 abbrev pub is_legal_record : Column → Record → Bool

@@ -22,7 +22,7 @@ pub mod Undisturbed
 pub mod Made
 pub mod Picking
 pub mod Settled
-pub mod Told
+pub mod Fields
 pub mod Sound
 pub mod Fronts
 pub mod Settling

@@ -11,7 +11,7 @@ use Rattle.flsm_model.specs.declared.edit.Edit.TheVariants.{Move}
 use Rattle.flsm_model.specs.Ranges.{range_of}
 use Rattle.flsm_model.specs.Shape.{Record, guards_at, has_number}
 use Rattle.flsm_model.specs.Fits.{lies_in, is_candidate, is_guard}
-use Rattle.flsm_model.specs.Trees.{Table, Tree, tree_of, installed}
+use Rattle.flsm_model.specs.Trees.{Table, Tree, tree_of, tree_after}
 use Rattle.flsm_model.specs.Writes.{copies_in}
 use Rattle.flsm_model.specs.TrueRecord.{Falls, IsTrueRecord}
 use Rattle.peb_base.specs.Members.{IsIn}
@@ -43,7 +43,7 @@ CutBefore t e = ⊤
 -- each of the edits does
 abbrev pub CutBeforeFrom : Column → Batches → Tree → Record → Type 0
 CutBeforeFrom o bs t [] = ⊤
-CutBeforeFrom o bs t (e ∷ es) = CutBefore t e × CutBeforeFrom o bs (installed o bs t e) es
+CutBeforeFrom o bs t (e ∷ es) = CutBefore t e × CutBeforeFrom o bs (tree_after o bs t e) es
 
 -- each Move since the base found its candidates cut
 pub record MovesAreCut (o : Column) (r : Record) (w : Standing) : Type 0 where

@@ -5,7 +5,7 @@ use Rattle.peb_base.specs.Numbers.{session_of}
 use Rattle.peb_base.specs.Members.{IsIn}
 use Rattle.peb_base.specs.Batches.{Batches, are_in_order, last_number, is_boundary, entries_of}
 use Rattle.flsm_model.specs.Compaction.{is_put}
-use Rattle.flsm_model.specs.Trees.{Describes, Table, Tree, empty_tree, contents, installed, tree_of}
+use Rattle.flsm_model.specs.Trees.{Describes, Table, Tree, empty_tree, contents, tree_after, tree_of}
 use Rattle.peb_base.specs.declared.entry.Entry.{Entry}
 use Rattle.peb_base.specs.Profiles.{Column}
 use Rattle.flsm_model.specs.Shape.{Record, shape_of, outputs_of}
@@ -51,7 +51,7 @@ pub record Flushed (bs : Batches) (to : ℕ) (x : Entry) : Type 0 where
 abbrev pub DescribedFrom : Column → Batches → Tree → Record → Type 0
 DescribedFrom o bs t [] = ⊤
 DescribedFrom o bs t (e ∷ es) =
-    AllZip (Describes o) (outputs_of e) (contents o bs t e) × Chooses o bs t e × DescribedFrom o bs (installed o bs t e) es
+    AllZip (Describes o) (outputs_of e) (contents o bs t e) × Chooses o bs t e × DescribedFrom o bs (tree_after o bs t e) es
 
 -- the record is true of the batches
 pub record IsTrueRecord (o : Column) (r : Record) (bs : Batches) : Type 0 where

@@ -8,7 +8,7 @@ use Rattle.peb_base.specs.Profiles.{Column}
 use Rattle.flsm_model.specs.declared.edit.Edit.{Edit}
 use Rattle.flsm_model.specs.declared.edit.Edit.TheVariants.{Cut}
 use Rattle.flsm_model.specs.Shape.{Record}
-use Rattle.flsm_model.specs.Trees.{Table, Tree, written_by, tables_numbered, installed}
+use Rattle.flsm_model.specs.Trees.{Table, Tree, written_by, tables_numbered, tree_after}
 
 -- the entry numbered q is among these
 abbrev pub holds : ℕ → List Entry → Bool
@@ -55,9 +55,9 @@ cuts_of t q level e = 0
 -- the writes of all edits
 abbrev pub writes_from : Column → Batches → Tree → ℕ → ℕ → Record → ℕ
 writes_from o bs t q level [] = 0
-writes_from o bs t q level (e ∷ es) = writes o bs t q level e + writes_from o bs (installed o bs t e) q level es
+writes_from o bs t q level (e ∷ es) = writes o bs t q level e + writes_from o bs (tree_after o bs t e) q level es
 
 -- the cuts of all edits
 abbrev pub cuts_from : Column → Batches → Tree → ℕ → ℕ → Record → ℕ
 cuts_from o bs t q level [] = 0
-cuts_from o bs t q level (e ∷ es) = cuts_of t q level e + cuts_from o bs (installed o bs t e) q level es
+cuts_from o bs t q level (e ∷ es) = cuts_of t q level e + cuts_from o bs (tree_after o bs t e) q level es

@@ -46,12 +46,12 @@ fn no_guards(alloc: Global, levels: u8) -> Result<Vec<List<Key>>, Memory>
 }
 
 impl Shape {
-    ghost use Rattle.flsm_model.specs.Told.{told};
+    ghost use Rattle.flsm_model.specs.Fields.{fields_of};
 
     /// The shape of the empty record.
     pub fn new(alloc: Global, options: &Options) -> Result<Shape, Memory>
-        ensures shape { IfOk result (λ shape. told shape ≡ empty_shape (column options.now.profile)) }
-        ensures record { IfOk result (λ shape. IsShapeOf (column options.now.profile) (told shape) []) }
+        ensures shape { IfOk result (λ shape. fields_of shape ≡ empty_shape (column options.now.profile)) }
+        ensures record { IfOk result (λ shape. IsShapeOf (column options.now.profile) (fields_of shape) []) }
         ensures options { IfOk result (λ shape. shape.options ≡ options.now) }
     {
         let guards = no_guards(alloc, options.last_level)?;
@@ -75,7 +75,7 @@ impl Shape {
 
     /// The guards of a level, ascending. Level 0 has none.
     pub(crate) fn guards_at(&self, level: usize) -> &[Key]
-        ensures { result.now ≡ guards_at (told self.now) level }
+        ensures { result.now ≡ guards_at (fields_of self.now) level }
     {
         if level == 0 {
             return &[];
