@@ -13,5 +13,6 @@ StandAtTheirLevels o cs = AllByRecursion (λ c. level_of o c.key ≡ Some c.leve
 
 -- the candidates of a level are the chosen keys that meet its need
 abbrev pub CandidatesMeet : Type 0
-CandidatesMeet = (o : Column) (cs : List Chosen) (level : ℕ) (key : Bytes) → StandAtTheirLevels o cs → 1 ≤ level
+CandidatesMeet =
+    (o : Column) (cs : List Chosen) (level : ℕ) (key : Bytes) → StandAtTheirLevels o cs → 1 ≤ level
     → is_candidate cs level key ≡ (is_chosen cs key && meets o level key)

@@ -25,7 +25,8 @@ claims_at MergeJob j = claim j j.level Take ∷ claim j j.level Take ∷ []
 abbrev pub claims_of : Job → List Claim
 claims_of j = claims_at j.kind j
 
--- a Cut bears nothing beside it, and two don't take from one range; tables may be appended while others are taken
+-- a Cut bears nothing beside it, and two don't take from one range; tables may be appended while
+-- others are taken
 abbrev pub modes_conflict : Mode → Mode → Bool
 modes_conflict CutClaim m = true
 modes_conflict Take Take = true
@@ -37,7 +38,8 @@ modes_conflict Append Append = false
 
 -- claims conflict where a level and a key are common, and the modes conflict
 abbrev pub claims_conflict : Claim → Claim → Bool
-claims_conflict a b = a.level == b.level && ranges_meet a.lo a.hi b.lo b.hi && modes_conflict a.mode b.mode
+claims_conflict a b =
+    a.level == b.level && ranges_meet a.lo a.hi b.lo b.hi && modes_conflict a.mode b.mode
 
 -- some claim of the one conflicts with one of the other
 abbrev pub jobs_conflict : Job → Job → Bool
@@ -53,4 +55,5 @@ is_claim_free c rs = list_all (λ r. not (list_any (claims_conflict c) (claims_o
 
 -- a job is free exactly where each of its claims is
 abbrev pub FreeByClaims : Type 0
-FreeByClaims = (j : Job) (rs : List Running) → is_free j rs ≡ list_all (λ c. is_claim_free c rs) (claims_of j)
+FreeByClaims =
+    (j : Job) (rs : List Running) → is_free j rs ≡ list_all (λ c. is_claim_free c rs) (claims_of j)

@@ -1,4 +1,5 @@
--- What the job that is picked is good for: it may begin, and where none is left the store is settled but for what is being written.
+-- What the job that is picked is good for: it may begin, and where none is left the store is
+-- settled but for what is being written.
 use Rattle.std.specs.Prelude.{◌≡◌, ℕ, ◌+◌, ◌^◌, ◌<◌, ◌≤◌, Bool, true, ◌&&◌, List, [], Some, None}
 use Rattle.peb_base.specs.Keys.{Bytes}
 use Rattle.peb_base.specs.Profiles.{Column}
@@ -13,7 +14,8 @@ use Rattle.flsm_model.specs.Fits.{is_chosen}
 -- a job that is picked may begin, if the session has table numbers left for it
 abbrev pub PickedIsLawful : Column → Standing → Type 0
 PickedIsLawful o w =
-    (n : Session) → w.session ≡ Some n → (j : Job) → picked o w n ≡ Some j → n.reserved + numbers_needed j < 2 ^ 40
+    (n : Session) → w.session ≡ Some n → (j : Job) → picked o w n ≡ Some j
+    → n.reserved + numbers_needed j < 2 ^ 40
     → IsLawful o w n j
 
 -- nothing is frozen, and level 0 and each guard have room
@@ -23,7 +25,8 @@ pub record HasRoom (o : Column) (w : Standing) (n : Session) : Type 0 where
 
 -- where no job is in flight and none is picked, there is room
 abbrev pub IdleHasRoom : Column → Standing → Type 0
-IdleHasRoom o w = (n : Session) → w.session ≡ Some n → n.running ≡ [] → picked o w n ≡ None → HasRoom o w n
+IdleHasRoom o w =
+    (n : Session) → w.session ≡ Some n → n.running ≡ [] → picked o w n ≡ None → HasRoom o w n
 
 -- the chosen keys for which a test holds: ascending, and no others
 pub record ChosenInOrder (test : Bytes → Bool) (s : Shape) : Type 0 where
@@ -37,5 +40,6 @@ ChosenAscend = (test : Bytes → Bool) (s : Shape) → ChosenInOrder test s
 -- ascending lists of the same keys are the same list
 abbrev pub AscendingAreEqual : Type 0
 AscendingAreEqual =
-    (ks ls : List Bytes) → keys_ascend ks ≡ true → keys_ascend ls ≡ true → ((key : Bytes) → has_key key ks ≡ has_key key ls)
+    (ks ls : List Bytes) → keys_ascend ks ≡ true → keys_ascend ls ≡ true
+    → ((key : Bytes) → has_key key ks ≡ has_key key ls)
     → ks ≡ ls

@@ -33,11 +33,14 @@ PlaceInGuards o w =
     (r : TableRow) → IsIn r w.tree.shape.live → 0 < r.level
     → lies_in (range_of (guards_at w.tree.shape r.level) r.smallest) r ≡ true
 
--- a Move finds each candidate of the next level that is the key of a put of its inputs among that level's guards
+-- a Move finds each candidate of the next level that is the key of a put of its inputs among that
+-- level's guards
 abbrev pub CutBefore : Tree → Edit → Type 0
 CutBefore t (Move level floor inputs outputs) =
-    (u : Table) (x : Entry) → IsIn u t.tables → has_number u.row.number inputs ≡ true → IsIn x u.entries → is_put x.change ≡ true
-    → is_candidate t.shape.chosen (suc level) x.key ≡ true → is_guard t.shape (suc level) x.key ≡ true
+    (u : Table) (x : Entry) → IsIn u t.tables → has_number u.row.number inputs ≡ true
+    → IsIn x u.entries → is_put x.change ≡ true
+    → is_candidate t.shape.chosen (suc level) x.key ≡ true
+    → is_guard t.shape (suc level) x.key ≡ true
 CutBefore t e = ⊤
 
 -- each of the edits does
@@ -54,5 +57,6 @@ pub record MovesAreCut (o : Column) (r : Record) (w : Standing) : Type 0 where
 -- so it is after every legal history over a true base
 abbrev pub AlwaysCut : Type 0
 AlwaysCut =
-    (p : Profile) (bs : Batches) (r : Record) (h : List Event) → IsTrueRecord (column p) r bs → IsLegal (column p) (base true (column p) bs r) h
+    (p : Profile) (bs : Batches) (r : Record) (h : List Event) → IsTrueRecord (column p) r bs
+    → IsLegal (column p) (base true (column p) bs r) h
     → MovesAreCut (column p) r (run (column p) (base true (column p) bs r) h)

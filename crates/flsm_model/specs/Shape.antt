@@ -26,7 +26,16 @@ pub record Shape : Type 0 where
 -- before the first edit
 abbrev pub empty_shape : Column → Shape
 empty_shape o =
-    record { session = 0; to = 0; log = 1; used = []; chosen = []; guards = replicate o.last_level []; live = [] }
+    record {
+      session = 0;
+      to = 0;
+      log = 1;
+      used = [];
+      chosen = [];
+      guards = replicate o.last_level
+          [];
+      live = [];
+    }
 
 -- the guards of a level; level 0 has none, so all keys are in one range there
 abbrev pub guards_at : Shape → ℕ → List Bytes
@@ -68,7 +77,11 @@ outputs_of (Merge floor whole inputs outputs) = outputs
 -- the shape after inputs are taken away and outputs added
 abbrev pub after_exchange : Shape → List ℕ → List TableRow → Shape
 after_exchange s inputs outputs =
-    record s { used = s.used ++ map (λ r. r.number) outputs; live = rows_without inputs s.live ++ outputs }
+    record s {
+      used = s.used ++ map (λ r. r.number) outputs;
+      live = rows_without inputs s.live
+          ++ outputs;
+    }
 
 -- the shape after the inputs of an edit are taken away and its outputs added
 abbrev pub exchange_of : Shape → Edit → Shape
@@ -78,9 +91,15 @@ exchange_of s e = after_exchange s (inputs_of e) (outputs_of e)
 abbrev pub shape_after : Shape → Edit → Shape
 shape_after s (Open session log) = record s { session = session; used = [] }
 shape_after s (Flush row from to log chosen) =
-    record (exchange_of s (Flush row from to log chosen)) { to = to; log = log; chosen = s.chosen ++ chosen }
+    record (exchange_of s (Flush row from to log chosen)) {
+      to = to;
+      log = log;
+      chosen = s.chosen
+          ++ chosen;
+    }
 shape_after s (Cut level keys inputs outputs) =
-    record (exchange_of s (Cut level keys inputs outputs)) { guards = set s.guards (level - 1) (with_keys keys (guards_at s level)) }
+    record (exchange_of s (Cut level keys inputs outputs))
+    { guards = set s.guards (level - 1) (with_keys keys (guards_at s level)) }
 shape_after s e = exchange_of s e
 
 -- the shape after further edits

@@ -63,7 +63,8 @@ frozen_left (Flush row from to log chosen) frozen = None
 frozen_left e frozen = frozen
 
 -- the attempts, with these jobs of the session among them
-abbrev pub attempts_with : Column → Standing → Option Session → (Session → List Running) → List Attempt
+abbrev pub attempts_with : Column → Standing → Option Session → (Session → List Running)
+    → List Attempt
 attempts_with o w None f = w.attempts
 attempts_with o w (Some s) f = w.attempts ++ attempts_of o w s (f s)
 
@@ -71,17 +72,31 @@ attempts_with o w (Some s) f = w.attempts ++ attempts_of o w s (f s)
 
 -- what stands after an event
 abbrev pub step : Column → Standing → Event → Standing
-step o w (Opened session log) = record (with_edit o w (Open session log)) { session = Some (new_session w log) }
+step o w (Opened session log) =
+    record (with_edit o w (Open session log)) { session = Some (new_session w log) }
 step o w (Commit actor first ops) =
-    record (on_session (λ s. record s { committed = s.committed + length ops }) w) { batches = w.batches ++ (first, ops) ∷ [] }
+    record (on_session (λ s. record s {
+      committed = s.committed
+          + length ops;
+    }) w) { batches = w.batches ++ (first, ops) ∷ [] }
 step o w (Synced actor n) = on_session (λ s. record s { stable = max s.stable n }) w
 step o w (Look actor n) = w
 step o w (Hold actor n) = on_session (λ s. record s { held = (actor, n) ∷ s.held }) w
 step o w (Release actor n) = on_session (λ s. record s { held = held_without (actor, n) s.held }) w
 step o w (Freeze n) =
-    on_session (λ s. record s { frozen = Some n; mem_from = n; stable = max s.stable n; freezes = suc s.freezes }) w
+    on_session (λ s. record s {
+      frozen = Some n;
+      mem_from = n;
+      stable = max s.stable n;
+      freezes =
+          suc s.freezes;
+    }) w
 step o w (Begin actor job) =
-    on_session (λ s. record s { running = (actor, job) ∷ s.running; reserved = s.reserved + numbers_needed job }) w
+    on_session (λ s. record s {
+      running = (actor, job) ∷ s.running;
+      reserved = s.reserved
+          + numbers_needed job;
+    }) w
 step o w (Done actor e) =
     on_session (λ s. record s {
       running = without_job s.running actor;
@@ -95,7 +110,12 @@ step o w (Short actor cause bytes) =
     }) (record w { attempts = attempts_with o w w.session (running_of actor) })
 step o w JournalFault = on_session (λ s. record s { faulted = Some s.running }) w
 step o w (Stop n e) =
-    record (with_last_edit o w e) { batches = batches_to n w.batches; attempts = attempts_with o w w.session (λ s. s.running); session = None }
+    record (with_last_edit o w e) {
+      batches = batches_to n w.batches;
+      attempts = attempts_with o w
+          w.session (λ s. s.running);
+      session = None;
+    }
 
 -- what stands after a history
 abbrev pub run : Column → Standing → List Event → Standing

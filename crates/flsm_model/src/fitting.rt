@@ -47,7 +47,8 @@ impl Shape {
 
     /// Whether the live tables of these numbers are at the level.
     fn inputs_are_at(&self, level: u8, inputs: &[u64]) -> bool
-        ensures { result ≡ list_all (λ row. row.level == level) (shapes.rows_numbered inputs.now self.now.live) }
+        ensures { result
+            ≡ list_all (λ row. row.level == level) (shapes.rows_numbered inputs.now self.now.live) }
     {
         self.live
             .items()
@@ -58,7 +59,9 @@ impl Shape {
 
     /// Whether the live tables of these numbers lie in the range.
     fn inputs_lie_in(&self, range: &Range, inputs: &[u64]) -> bool
-        ensures { result ≡ list_all (fits.lies_in (range.now.lo.now, option_copied range.now.hi)) (shapes.rows_numbered inputs.now self.now.live) }
+        ensures { result
+            ≡ list_all (fits.lies_in (range.now.lo.now, option_copied range.now.hi))
+            (shapes.rows_numbered inputs.now self.now.live) }
     {
         self.live
             .items()
@@ -69,7 +72,8 @@ impl Shape {
 
     /// The range of the guard in which the first input begins.
     fn input_range(&self, level: u8, inputs: &[u64]) -> Range
-        ensures { (result.lo.now, option_copied result.hi) ≡ fits.input_range (fields_of self.now) level inputs.now }
+        ensures { (result.lo.now, option_copied result.hi)
+            ≡ fits.input_range (fields_of self.now) level inputs.now }
     {
         Range::of(
             self.guards_at(level as usize),
@@ -79,7 +83,9 @@ impl Shape {
 
     /// Whether the live tables of these numbers lie in one guard of the level.
     fn inputs_lie_together(&self, level: u8, inputs: &[u64]) -> bool
-        ensures { result ≡ list_all (fits.lies_in (fits.input_range (fields_of self.now) level inputs.now)) (shapes.rows_numbered inputs.now self.now.live) }
+        ensures { result
+            ≡ list_all (fits.lies_in (fits.input_range (fields_of self.now) level inputs.now))
+            (shapes.rows_numbered inputs.now self.now.live) }
     {
         self.inputs_lie_in(&self.input_range(level, inputs), inputs)
     }
@@ -98,7 +104,9 @@ impl Shape {
 
     /// Whether the key may be cut at the level.
     fn may_be_cut(&self, level: u8, range: &Range, key: &[u8]) -> bool
-        ensures { result ≡ fits.may_be_cut (column self.now.options.profile) (fields_of self.now) level (range.now.lo.now, option_copied range.now.hi) key.now }
+        ensures { result
+            ≡ fits.may_be_cut (column self.now.options.profile) (fields_of self.now) level
+            (range.now.lo.now, option_copied range.now.hi) key.now }
     {
         is_candidate(self.chosen.items(), level, key)
             && range.has(key)
@@ -109,7 +117,8 @@ impl Shape {
 
     /// Whether the key of a flush wasn't chosen before, and has its level.
     fn is_choice(&self, chosen: &Chosen) -> bool
-        ensures { result ≡ fits.is_choice (column self.now.options.profile) (fields_of self.now) chosen.now }
+        ensures { result
+            ≡ fits.is_choice (column self.now.options.profile) (fields_of self.now) chosen.now }
     {
         let key = chosen.key.bytes();
         !is_chosen(self.chosen.items(), key)
@@ -121,14 +130,17 @@ impl Shape {
 
     /// Whether the keys of a flush ascend, weren't chosen before, and have their levels.
     fn are_choices(&self, chosen: &[Chosen]) -> bool
-        ensures { result ≡ fits.are_choices (column self.now.options.profile) (fields_of self.now) chosen.now }
+        ensures { result
+            ≡ fits.are_choices (column self.now.options.profile) (fields_of self.now) chosen.now }
     {
         chosen_ascend(chosen) && self.each_is_choice(chosen)
     }
 
     /// Whether each of the keys wasn't chosen before, and has its level.
     fn each_is_choice(&self, chosen: &[Chosen]) -> bool
-        ensures { result ≡ list_all (fits.is_choice (column self.now.options.profile) (fields_of self.now)) chosen.now }
+        ensures { result
+            ≡ list_all (fits.is_choice (column self.now.options.profile) (fields_of self.now))
+            chosen.now }
     {
         chosen.iter().all(|c| self.is_choice(c))
     }
@@ -149,7 +161,9 @@ impl Shape {
 
     /// Whether an opening fits.
     fn opens(&self, session: u64, log: u64) -> bool
-        ensures { result ≡ fits.fits (column self.now.options.profile) (fields_of self.now) (edits.Open session log) }
+        ensures { result
+            ≡ fits.fits (column self.now.options.profile) (fields_of self.now)
+            (edits.Open session log) }
     {
         self.session < session
             && self.log <= log
@@ -159,7 +173,9 @@ impl Shape {
 
     /// Whether a flush fits.
     fn flushes(&self, row: &TableRow, from: u64, to: u64, log: u64, chosen: &[Chosen]) -> bool
-        ensures { result ≡ fits.fits (column self.now.options.profile) (fields_of self.now) (edits.Flush row.now from to log chosen.now) }
+        ensures { result
+            ≡ fits.fits (column self.now.options.profile) (fields_of self.now)
+            (edits.Flush row.now from to log chosen.now) }
     {
         let session = self.session as u128;
         if from != self.to || to <= from || log <= self.log || log <= 1 {
@@ -174,10 +190,12 @@ impl Shape {
         self.are_choices(chosen) && self.are_new(std::slice::from_ref(row))
     }
 
-    /// Whether the rows can be outputs of a compaction into the level: at the level, in order, each new and in a guard of its own.
+    /// Whether the rows can be outputs of a compaction into the level: at the level, in order, each
+    /// new and in a guard of its own.
     fn outputs_fit(&self, level: usize, rows: &[TableRow]) -> bool
         ensures { result ≡ (list_all (λ row. row.level == level) rows.now && fits.rows_ascend rows.now
-            && fits.lie_apart (shapes.guards_at (fields_of self.now) level) rows.now && fits.rows_are_new self.now.session self.now.used rows.now) }
+            && fits.lie_apart (shapes.guards_at (fields_of self.now) level) rows.now
+            && fits.rows_are_new self.now.session self.now.used rows.now) }
     {
         if !are_at(level, rows) || !rows_ascend(rows) {
             return false;
@@ -187,7 +205,10 @@ impl Shape {
 
     /// Whether a compaction of the level into the next one fits.
     fn moves(&self, level: u8, inputs: &[u64], outputs: &[TableRow]) -> bool
-        ensures { (floor : ℕ) → result ≡ fits.fits (column self.now.options.profile) (fields_of self.now) (edits.Move level floor inputs.now outputs.now) }
+        ensures { (floor : ℕ)
+            → result
+            ≡ fits.fits (column self.now.options.profile) (fields_of self.now)
+            (edits.Move level floor inputs.now outputs.now) }
     {
         if level >= self.options.last_level || !self.are_inputs(level, inputs) {
             return false;
@@ -197,7 +218,10 @@ impl Shape {
 
     /// Whether a compaction within a guard of the last level fits.
     fn merges(&self, inputs: &[u64], outputs: &[TableRow]) -> bool
-        ensures { (floor : ℕ) (whole : Bool) → result ≡ fits.fits (column self.now.options.profile) (fields_of self.now) (edits.Merge floor whole inputs.now outputs.now) }
+        ensures { (floor : ℕ) (whole : Bool)
+            → result
+            ≡ fits.fits (column self.now.options.profile) (fields_of self.now)
+            (edits.Merge floor whole inputs.now outputs.now) }
     {
         let last = self.options.last_level;
         if !self.are_inputs(last, inputs) || outputs.len() > 1 {
@@ -210,7 +234,9 @@ impl Shape {
 
     /// Whether each of the keys may be cut at the level.
     fn may_all_be_cut(&self, level: u8, range: &Range, keys: &[Key]) -> bool
-        ensures { result ≡ list_all (fits.may_be_cut (column self.now.options.profile) (fields_of self.now) level (range.now.lo.now, option_copied range.now.hi)) keys.now }
+        ensures { result
+            ≡ list_all (fits.may_be_cut (column self.now.options.profile) (fields_of self.now) level
+            (range.now.lo.now, option_copied range.now.hi)) keys.now }
     {
         keys.iter()
             .all(|key| self.may_be_cut(level, range, key.bytes()))
@@ -218,7 +244,9 @@ impl Shape {
 
     /// Whether each live table of these numbers is one of the range that a key splits.
     fn inputs_are_split(&self, level: u8, range: &Range, keys: &[Key], inputs: &[u64]) -> bool
-        ensures { result ≡ list_all (fits.is_straddled level (range.now.lo.now, option_copied range.now.hi) keys.now) (shapes.rows_numbered inputs.now self.now.live) }
+        ensures { result
+            ≡ list_all (fits.is_straddled level (range.now.lo.now, option_copied range.now.hi)
+            keys.now) (shapes.rows_numbered inputs.now self.now.live) }
     {
         self.live
             .items()
@@ -229,7 +257,10 @@ impl Shape {
 
     /// Whether no other live table is one of the range that a key splits.
     fn others_are_whole(&self, level: u8, range: &Range, keys: &[Key], inputs: &[u64]) -> bool
-        ensures { result ≡ list_all (λ row. not (fits.is_straddled level (range.now.lo.now, option_copied range.now.hi) keys.now row)) (shapes.rows_without inputs.now self.now.live) }
+        ensures { result
+            ≡ list_all (λ row. not (fits.is_straddled level
+            (range.now.lo.now, option_copied range.now.hi) keys.now row))
+            (shapes.rows_without inputs.now self.now.live) }
     {
         self.live
             .items()
@@ -248,7 +279,9 @@ impl Shape {
         guards: &[Key],
     ) -> bool
         requires { guards.now ≡ ranges.with_keys keys.now (shapes.guards_at (fields_of self.now) level) }
-        ensures { result ≡ fits.fits (column self.now.options.profile) (fields_of self.now) (edits.Cut level keys.now inputs.now outputs.now) }
+        ensures { result
+            ≡ fits.fits (column self.now.options.profile) (fields_of self.now)
+            (edits.Cut level keys.now inputs.now outputs.now) }
     {
         let range = Range::of(self.guards_at(level as usize), first_of(keys));
         if level < 1
@@ -274,7 +307,8 @@ impl Shape {
 
     /// Whether an edit fits the record whose shape this is.
     pub(crate) fn fits(&self, edit: &Edit) -> Result<bool, Memory>
-        ensures { IfOk result (λ fitting. fitting ≡ fits.fits (column self.now.options.profile) (fields_of self.now) edit.now) }
+        ensures { IfOk result (λ fitting. fitting
+            ≡ fits.fits (column self.now.options.profile) (fields_of self.now) edit.now) }
     {
         match edit {
             Edit::Open { session, log } => Ok(self.opens(*session, *log)),

@@ -11,7 +11,8 @@ use std::alloc::Global;
 
 /// What a record of edits leaves, as far as later edits depend on it.
 ///
-/// A shape begins empty. It stays one that a legal record leaves, since `add` takes only edits that fit.
+/// A shape begins empty. It stays one that a legal record leaves, since `add` takes only edits that
+/// fit.
 #[derive(Debug, Drop)]
 pub struct Shape {
     alloc: Global,
