@@ -64,8 +64,7 @@ abbrev pub with_row : TableRow → LevelCount → LevelCount
 with_row row c =
     record c {
       tables = capped (c.tables + 1);
-      entries = capped (c.entries
-          + row.entries);
+      entries = capped (c.entries + row.entries);
       bytes = capped (c.bytes + row.bytes);
     }
 

@@ -46,8 +46,7 @@ pub record RowsSuit (o : Column) (s : Shape) (j : Job) (e : Edit) : Type 0 where
   pub pieces : suits j.kind o s j e ≡ true
 
 -- the edit is one that the job's worker makes: rows of the job's level, with numbers of its own,
--- that describe the outcome's contents,
--- or, where contents aren't known, suit the job
+-- that describe the outcome's contents, or, where contents aren't known, suit the job
 pub record IsMade (o : Column) (w : Standing) (n : Session) (j : Job) (e : Edit) : Type 0 where
   pub same : IsEditOf j.kind n j e
   pub starts : StartsAt w.tree.shape.to e

@@ -109,8 +109,8 @@ cut_or o s level (key ∷ keys) other = cut_job o s level (range_of (guards_at s
 abbrev pub job_at : Column → Shape → ℕ → Bytes × Option Bytes → ℕ → Job → Job
 job_at o s level range zero move = move
 job_at o s level range (suc count) move =
-    cut_or o s (level
-    + count) (missing s level range (level + count)) (job_at o s level range count move)
+    cut_or o s (level + count) (missing s level range (level + count))
+    (job_at o s level range count move)
 
 -- the jobs of the targets of `count` levels from the level on, each range that holds too many
 -- tables

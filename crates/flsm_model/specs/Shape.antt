@@ -79,8 +79,7 @@ abbrev pub after_exchange : Shape → List ℕ → List TableRow → Shape
 after_exchange s inputs outputs =
     record s {
       used = s.used ++ map (λ r. r.number) outputs;
-      live = rows_without inputs s.live
-          ++ outputs;
+      live = rows_without inputs s.live ++ outputs;
     }
 
 -- the shape after the inputs of an edit are taken away and its outputs added
@@ -94,8 +93,7 @@ shape_after s (Flush row from to log chosen) =
     record (exchange_of s (Flush row from to log chosen)) {
       to = to;
       log = log;
-      chosen = s.chosen
-          ++ chosen;
+      chosen = s.chosen ++ chosen;
     }
 shape_after s (Cut level keys inputs outputs) =
     record (exchange_of s (Cut level keys inputs outputs))

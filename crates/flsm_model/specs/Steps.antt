@@ -76,8 +76,7 @@ step o w (Opened session log) =
     record (with_edit o w (Open session log)) { session = Some (new_session w log) }
 step o w (Commit actor first ops) =
     record (on_session (λ s. record s {
-      committed = s.committed
-          + length ops;
+      committed = s.committed + length ops;
     }) w) { batches = w.batches ++ (first, ops) ∷ [] }
 step o w (Synced actor n) = on_session (λ s. record s { stable = max s.stable n }) w
 step o w (Look actor n) = w
@@ -88,14 +87,12 @@ step o w (Freeze n) =
       frozen = Some n;
       mem_from = n;
       stable = max s.stable n;
-      freezes =
-          suc s.freezes;
+      freezes = suc s.freezes;
     }) w
 step o w (Begin actor job) =
     on_session (λ s. record s {
       running = (actor, job) ∷ s.running;
-      reserved = s.reserved
-          + numbers_needed job;
+      reserved = s.reserved + numbers_needed job;
     }) w
 step o w (Done actor e) =
     on_session (λ s. record s {

@@ -79,8 +79,7 @@ abbrev pub tree_after : Column → Batches → Tree → Edit → Tree
 tree_after o bs t e =
     record {
       shape = shape_after t.shape e;
-      tables = tables_without (inputs_of e) t.tables
-          ++ written_by o bs t e;
+      tables = tables_without (inputs_of e) t.tables ++ written_by o bs t e;
     }
 
 -- the tree after further edits

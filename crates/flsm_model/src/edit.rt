@@ -15,8 +15,8 @@ pub enum Edit {
         log: u64,
     },
     /// The frozen memtable became a table of level 0: the entries numbered above `from` and at most
-    /// `to`. Logs below `log` aren't needed
-    /// any more. The chosen keys are new candidates for guards.
+    /// `to`. Logs below `log` aren't needed any more. The chosen keys are new candidates for
+    /// guards.
     Flush {
         row: TableRow,
         from: Number,

@@ -1,10 +1,10 @@
 //! What every legal history keeps. Each function runs nothing; its contract is the law.
 //!
-//! A law speaks of every profile and every legal history over a base. `Always` takes a record that is
-//! true of the batches; `AlwaysFormed` takes any legal record, so that the law also holds over devices
-//! that tell nothing, where a history has no contents. Jobs in flight, jobs that were cut short, faults
-//! of the journal and stops are all part of such a history. Since each front of a legal history is
-//! legal, a law holds at every moment.
+//! A law speaks of every profile and every legal history over a base. `Always` takes a record that
+//! is true of the batches; `AlwaysFormed` takes any legal record, so that the law also holds over
+//! devices that tell nothing, where a history has no contents. Jobs in flight, jobs that were cut
+//! short, faults of the journal and stops are all part of such a history. Since each front of a
+//! legal history is legal, a law holds at every moment.
 
 ghost use Rattle.flsm_model.specs.Legal.{Always, AlwaysFormed};
 ghost use Rattle.flsm_model.specs.Placing.{OnePlace, OrderHolds, PlaceInGuards, AlwaysCut};
@@ -34,24 +34,21 @@ pub fn law_order()
 {}
 
 /// Each live table below level 0 lies in one guard's range of its level, and a compaction's inputs
-/// have no put of a candidate of the next
-/// level that isn't a guard there.
+/// have no put of a candidate of the next level that isn't a guard there.
 pub fn law_guards()
     ensures placed { AlwaysFormed PlaceInGuards }
     ensures cut { AlwaysCut }
 {}
 
 /// Where a number is last or held, the newest puts up to it in the memtables and live tables are
-/// those of the batches; as lists of rows,
-/// they are the ordered map.
+/// those of the batches; as lists of rows, they are the ordered map.
 pub fn law_map()
     ensures puts { Always MapHolds }
     ensures rows { Always MapShows }
 {}
 
 /// Above the last level each entry is written once, once more for each new guard inside its table,
-/// and once for each attempt. Further
-/// writings into the last level are those of Merges.
+/// and once for each attempt. Further writings into the last level are those of Merges.
 pub fn law_bound()
     ensures history { Always WrittenOnce }
     ensures edits { RecordBound }
@@ -59,8 +56,7 @@ pub fn law_bound()
 {}
 
 /// The record is legal, and true of the batches where contents are known; the tree is the one that
-/// the record spells. It ends with the
-/// edits that the open session made.
+/// the record spells. It ends with the edits that the open session made.
 pub fn law_record()
     ensures legal { AlwaysFormed RecordIsLegal }
     ensures holds { Always RecordIsTrue }
@@ -110,9 +106,8 @@ pub fn law_marks()
 {}
 
 /// An edit that has work, and writes no more entries than it takes, leaves less to do until the
-/// store is settled: fewer levels to go,
-/// or else fewer candidates without a guard, or else fewer tables in the last level. Outcomes write
-/// no more than their jobs take.
+/// store is settled: fewer levels to go, or else fewer candidates without a guard, or else fewer
+/// tables in the last level. Outcomes write no more than their jobs take.
 pub fn law_settles()
     ensures edits { EditsSettle }
     ensures measure { MeasureFalls }
@@ -142,9 +137,8 @@ pub fn law_lookup()
 {}
 
 /// Where each key stands with the shallowest level that it meets, as those of a legal record do,
-/// the candidates of a level are the chosen
-/// keys that meet the level's need. The chosen keys for which a test holds ascend, and an ascending
-/// list is known by its keys.
+/// the candidates of a level are the chosen keys that meet the level's need. The chosen keys for
+/// which a test holds ascend, and an ascending list is known by its keys.
 pub fn law_candidates()
     ensures meet { CandidatesMeet }
     ensures ascend { ChosenAscend }

@@ -2,12 +2,10 @@
 //! was written how often.
 //!
 //! The layers above use the plain types `Edit`, `Job` and `Claim`, count what is written in a
-//! `Ledger`, fold the manifest's
-//! edits into a `Shape`, and state their contracts by the definitions in `specs/`: which edits fit
-//! a record, which histories
-//! are legal, what an outcome of a job is. The laws in `laws.rt` say what every legal history
-//! keeps. Each definition is
-//! a plain slow program or a relation; none knows how tables, versions or logs are kept.
+//! `Ledger`, fold the manifest's edits into a `Shape`, and state their contracts by the definitions
+//! in `specs/`: which edits fit a record, which histories are legal, what an outcome of a job is.
+//! The laws in `laws.rt` say what every legal history keeps. Each definition is a plain slow
+//! program or a relation; none knows how tables, versions or logs are kept.
 #![tactic(auto)]
 
 mod chosen;
