@@ -8,7 +8,7 @@ use Rattle.peb_base.specs.declared.profile.Profile.{Profile}
 use Rattle.peb_base.specs.declared.profile.Profile.TheVariants.{Normal, Small}
 use Rattle.flsm_model.specs.Shape.{Record, empty_shape, guards_at}
 use Rattle.flsm_model.specs.Fits.{fits, fit_from}
-use Rattle.flsm_model.specs.Trees.{Tree, rows_of, installed, tree_from, empty_tree}
+use Rattle.flsm_model.specs.Trees.{Tree, rows_of, tree_after, tree_from, empty_tree}
 use Rattle.flsm_model.specs.TrueRecord.{DescribedFrom, IsTrueRecord}
 use Rattle.flsm_model.specs.Events.{base}
 use Rattle.flsm_model.specs.Legal.{Always}
@@ -54,7 +54,7 @@ pub kept_from : (o : Column) (bs : Batches) (t : Tree) (r : Record) → fit_from
 kept_from o bs t [] f d k = k
 kept_from o bs t (e ∷ es) f d k =
     let p = and_parts (fits o t.shape e) _ f in
-    kept_from o bs (installed o bs t e) es p.1 d.2 (record {
+    kept_from o bs (tree_after o bs t e) es p.1 d.2 (record {
       rows = rows_step o bs t e d.0 k.rows;
       guards = in_guards_step o t.shape e k.guards p.0;
       flushed = flushed_step o bs t e p.0 k.flushed;

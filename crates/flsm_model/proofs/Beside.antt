@@ -14,10 +14,10 @@ use Rattle.flsm_model.specs.declared.edit.Edit.TheVariants.{Open, Flush, Move, C
 use Rattle.flsm_model.specs.declared.job_kind.JobKind.{JobKind}
 use Rattle.flsm_model.specs.declared.job_kind.JobKind.TheVariants.{Flush as FlushJob, Move as MoveJob, Cut as CutJob, Merge as MergeJob}
 use Rattle.flsm_model.specs.declared.job.Job.{Job}
-use Rattle.flsm_model.specs.Shape.{Shape, has_number, outputs_of, grown, guards_at}
+use Rattle.flsm_model.specs.Shape.{Shape, has_number, outputs_of, shape_after, guards_at}
 use Rattle.peb_base.specs.Tables.{is_row}
 use Rattle.flsm_model.specs.Fits.{fits, is_of_session, is_new, rows_are_new, is_straddled}
-use Rattle.flsm_model.specs.Trees.{Table, Tree, rows_of, contents, installed, written_by, tables_numbered}
+use Rattle.flsm_model.specs.Trees.{Table, Tree, rows_of, contents, tree_after, written_by, tables_numbered}
 use Rattle.flsm_model.specs.Claims.{jobs_conflict, claims_at, claims_conflict}
 use Rattle.flsm_model.proofs.Totals.{levels-paired}
 use Rattle.flsm_model.proofs.Facts.{move_facts, flush_facts, cut_facts, merge_facts}
@@ -95,10 +95,10 @@ no_input o bs t e k w new run i = by (has_number w.row.number k.inputs) refl
 
 -- all but the order: the numbers, the level and the keys of the inputs
 beside : (o : Column) (bs : Batches) (t : Tree) (e : Edit) (k : Job) → rows_are_new t.shape.session t.shape.used (outputs_of e) ≡ true
-    → (grown t.shape e).session ≡ t.shape.session → (grown t.shape e).used ≡ t.shape.used ++ map (λ (r : TableRow). r.number) (outputs_of e)
+    → (shape_after t.shape e).session ≡ t.shape.session → (shape_after t.shape e).used ≡ t.shape.used ++ map (λ (r : TableRow). r.number) (outputs_of e)
     → InFlight o t k
     → ((w u : Table) → IsIn w (written_by o bs t e) → IsIn u t.tables → has_number u.row.number k.inputs ≡ true → is_full k.kind k.whole ≡ true → w.row.level ≤ k.level → Newer w u)
-    → InFlight o (installed o bs t e) k
+    → InFlight o (tree_after o bs t e) k
 beside o bs t e k new session used run newer =
     record {
       shallow = run.shallow;
@@ -112,7 +112,7 @@ beside o bs t e k new session used run newer =
       ];
     }
   where
-    old : (u : Table) → IsIn u (installed o bs t e).tables → has_number u.row.number k.inputs ≡ true → IsIn u t.tables
+    old : (u : Table) → IsIn u (tree_after o bs t e).tables → has_number u.row.number k.inputs ≡ true → IsIn u t.tables
     old u i h = elim (after o bs t e u i) [
       | inl a ↦ a.0
       | inr b ↦ absurd (true≢false (sym h ∙ no_input o bs t e k u new run b))
@@ -120,7 +120,7 @@ beside o bs t e k new session used run newer =
 
 pub beside_step : (o : Column) (bs : Batches) (t : Tree) (j k : Job) (e : Edit) → fits o t.shape e ≡ true → rows_of t.tables ≡ t.shape.live
     → AllFlushed t.tables t.shape.to → InFlight o t j → IsFor j e → jobs_conflict j k ≡ false → ((s l : ℕ) → e ≢ Open s l)
-    → InFlight o t k → InFlight o (installed o bs t e) k
+    → InFlight o t k → InFlight o (tree_after o bs t e) k
 beside_step o bs t j k (Open session log) fit rows fl run for apart other running = absurd (other session log refl)
 beside_step o bs t j k (Flush row from to log chosen) fit rows fl run for apart other running =
     let f = flush_facts o t.shape row from to log chosen fit in

@@ -7,7 +7,7 @@ use Rattle.peb_base.specs.Batches.{Batches, entries_of, numbered, ordered_above,
 use Rattle.peb_base.specs.Entries.{entries_between, in_order}
 use Rattle.peb_base.specs.Keys.{Bytes}
 use Rattle.flsm_model.specs.Compaction.{straddles, kept, is_kept, pieces, some_entries}
-use Rattle.flsm_model.specs.Trees.{Describes, Table, Tree, rows_of, content_of, merged, contents, paired, written_by, tables_without, tables_numbered, installed, tree_from}
+use Rattle.flsm_model.specs.Trees.{Describes, Table, Tree, rows_of, content_of, merged, contents, paired, written_by, tables_without, tables_numbered, tree_after, tree_from}
 use Rattle.peb_base.specs.declared.op.Op.{Op}
 use Rattle.peb_base.specs.declared.entry.Entry.{Entry}
 use Rattle.peb_base.specs.declared.table_row.TableRow.{TableRow}
@@ -189,7 +189,7 @@ exchange q ns ts out h =
 
 -- copies and what isn't flushed never grow
 pub place_step : (o : Column) (bs : Batches) (t : Tree) (e : Edit) (q : ℕ) → are_in_order bs ≡ true → fits o t.shape e ≡ true
-    → copies_in q (installed o bs t e).tables + unflushed q (installed o bs t e).shape.to ≤ copies_in q t.tables + unflushed q t.shape.to
+    → copies_in q (tree_after o bs t e).tables + unflushed q (tree_after o bs t e).shape.to ≤ copies_in q t.tables + unflushed q t.shape.to
 place_step o bs t (Open session log) q b f = omega (arith, exchange q [] t.tables [] (omega arith))
 place_step o bs t (Flush row from to log chosen) q b f =
     let k = flush_facts o t.shape row from to log chosen f in
@@ -274,7 +274,7 @@ paid_by_cuts q keys (t ∷ ts) s h = by (holds q t.entries) refl (paid_by_cuts q
 
 pub bound_step : (o : Column) (bs : Batches) (t : Tree) (e : Edit) (q level : ℕ) → are_in_order bs ≡ true → fits o t.shape e ≡ true
     → rows_of t.tables ≡ t.shape.live → copies_in q t.tables ≤ 1 → level < o.last_level
-    → writes o bs t q level e + (copies_above q level (installed o bs t e).tables + unflushed q (installed o bs t e).shape.to)
+    → writes o bs t q level e + (copies_above q level (tree_after o bs t e).tables + unflushed q (tree_after o bs t e).shape.to)
     ≤ cuts_of t q level e + (copies_above q level t.tables + unflushed q t.shape.to)
 bound_step o bs t (Open session log) q level b f rows one l =
     omega (arith, above-append q level (tables_without [] t.tables) [], above-parts q level [] t.tables)
@@ -388,7 +388,7 @@ without_none [] = refl
 without_none (r ∷ rs) = ap (λ xs. r ∷ xs) (without_none rs)
 
 pub rows_step : (o : Column) (bs : Batches) (t : Tree) (e : Edit) → AllZip (Describes o) (outputs_of e) (contents o bs t e)
-    → rows_of t.tables ≡ t.shape.live → rows_of (installed o bs t e).tables ≡ (installed o bs t e).shape.live
+    → rows_of t.tables ≡ t.shape.live → rows_of (tree_after o bs t e).tables ≡ (tree_after o bs t e).shape.live
 rows_step o bs t (Open session log) d r =
     rows-append (tables_without [] t.tables) [] ∙ ap (λ xs. xs ++ []) (without_rows [] t.tables) ∙ without_none (rows_of t.tables) ∙ r
 rows_step o bs t (Flush row from to log chosen) d r = exchanged_rows o bs t (Flush row from to log chosen) d r
@@ -401,7 +401,7 @@ pub place_from : (o : Column) (bs : Batches) (t : Tree) (r : Record) (q : ℕ) �
 place_from o bs t [] q b f = omega arith
 place_from o bs t (e ∷ es) q b f =
     let p = and_parts (fits o t.shape e) _ f in
-    omega (arith, place_step o bs t e q b p.0, place_from o bs (installed o bs t e) es q b p.1)
+    omega (arith, place_step o bs t e q b p.0, place_from o bs (tree_after o bs t e) es q b p.1)
 
 pub bound_from : (o : Column) (bs : Batches) (t : Tree) (r : Record) (q level : ℕ) → are_in_order bs ≡ true → fit_from o t.shape r ≡ true
     → DescribedFrom o bs t r → rows_of t.tables ≡ t.shape.live → copies_in q t.tables + unflushed q t.shape.to ≤ 1 → level < o.last_level
@@ -413,5 +413,5 @@ bound_from o bs t (e ∷ es) q level b f d rows one l =
     omega (
       arith,
       bound_step o bs t e q level b p.0 rows (omega arith) l,
-      bound_from o bs (installed o bs t e) es q level b p.1 d.2 (rows_step o bs t e d.0 rows) (omega (arith, place_step o bs t e q b p.0)) l,
+      bound_from o bs (tree_after o bs t e) es q level b p.1 d.2 (rows_step o bs t e d.0 rows) (omega (arith, place_step o bs t e q b p.0)) l,
     )

@@ -5,7 +5,7 @@ use Rattle.peb_base.specs.Choice.{level_of}
 use Rattle.peb_base.specs.Profiles.{column, Column}
 use Rattle.flsm_model.specs.declared.edit.Edit.{Edit}
 use Rattle.flsm_model.specs.declared.edit.Edit.TheVariants.{Open, Flush, Move, Cut, Merge}
-use Rattle.flsm_model.specs.Shape.{Record, Shape, empty_shape, grown, shape_from}
+use Rattle.flsm_model.specs.Shape.{Record, Shape, empty_shape, shape_after, shape_from}
 use Rattle.flsm_model.specs.Fits.{fits, fit_from, is_choice, is_level}
 use Rattle.flsm_model.specs.Sound.{IsBounded, RecordsBounded}
 use Rattle.flsm_model.proofs.Lists.{in_append, all_in}
@@ -14,7 +14,7 @@ level_is : (l : Option ℕ) (level : ℕ) → is_level l level ≡ true → l �
 level_is None level h = absurd (true≢false (sym h))
 level_is (Some l) level h = ap (λ (n : ℕ). Some n) (eqb-true l level h)
 
-bound_step : (o : Column) (s : Shape) (e : Edit) → fits o s e ≡ true → IsBounded o s → IsBounded o (grown s e)
+bound_step : (o : Column) (s : Shape) (e : Edit) → fits o s e ≡ true → IsBounded o s → IsBounded o (shape_after s e)
 bound_step o s (Open session log) f h =
     let p3 = and_parts _ _ f in
     let p2 = and_parts _ _ p3.0 in
@@ -49,7 +49,7 @@ bound_step o s (Merge floor whole inputs outputs) f h = record { least = h.least
 
 pub bound_from : (o : Column) (s : Shape) (r : Record) → fit_from o s r ≡ true → IsBounded o s → IsBounded o (shape_from s r)
 bound_from o s [] f h = h
-bound_from o s (e ∷ es) f h = let p = and_parts (fits o s e) _ f in bound_from o (grown s e) es p.1 (bound_step o s e p.0 h)
+bound_from o s (e ∷ es) f h = let p = and_parts (fits o s e) _ f in bound_from o (shape_after s e) es p.1 (bound_step o s e p.0 h)
 
 pub empty_bounded : (o : Column) → IsBounded o (empty_shape o)
 empty_bounded o = record { least = omega arith; room = omega arith; flushed = omega arith; choices = λ c i. absurd i }

@@ -1,5 +1,5 @@
 -- Each Move of a history finds its candidates cut.
-use Rattle.std.proofs.Common.{◌≡◌, ℕ, zero, suc, ◌+◌, ◌-◌, ◌*◌, ◌<◌, ◌≤◌, ◌≢◌, Bool, true, false, cond, ◌&&◌, ◌||◌, not, List, [], ◌∷◌, ◌++◌, ◌⊎◌, inl, inr, refl, sym, ◌∙◌, ap, subst, arith}
+use Rattle.std.proofs.Common.{nat_le, ◌≡◌, ℕ, zero, suc, ◌+◌, ◌-◌, ◌*◌, ◌<◌, ◌≤◌, ◌≢◌, Bool, true, false, cond, ◌&&◌, ◌||◌, not, List, [], ◌∷◌, ◌++◌, ◌⊎◌, inl, inr, refl, sym, ◌∙◌, ap, subst, arith}
 use Rattle.std.specs.Prelude.{filter, Option, Some, None, unwrap_or}
 use Rattle.std.specs.Cmp.Lexicographic.{bytes_decides}
 use Rattle.std.proofs.lemmas.Bool.{and_parts, and_from, or_cases, or_left, or_right, cases_Bool, leb-true, le-leb, true≢false, false≢true, not-true}
@@ -18,9 +18,9 @@ use Rattle.flsm_model.specs.declared.edit.Edit.TheVariants.{Open, Flush, Move, C
 use Rattle.flsm_model.specs.declared.job_kind.JobKind.{JobKind}
 use Rattle.flsm_model.specs.declared.job_kind.JobKind.TheVariants.{Flush as FlushJob, Move as MoveJob, Cut as CutJob, Merge as MergeJob}
 use Rattle.flsm_model.specs.declared.job.Job.{Job}
-use Rattle.flsm_model.specs.Shape.{Record, Shape, grown, shape_from, shape_of, empty_shape, has_number}
+use Rattle.flsm_model.specs.Shape.{Record, Shape, shape_after, shape_from, shape_of, empty_shape, has_number}
 use Rattle.flsm_model.specs.Fits.{fits, fit_from, is_chosen, is_guard}
-use Rattle.flsm_model.specs.Trees.{Table, Tree, contents, installed, tree_of, tree_from, empty_tree}
+use Rattle.flsm_model.specs.Trees.{Table, Tree, contents, tree_after, tree_of, tree_from, empty_tree}
 use Rattle.flsm_model.specs.Choices.{put_keys, choices, chosen_at, chosen_by, Chooses}
 use Rattle.flsm_model.specs.TrueRecord.{DescribedFrom}
 use Rattle.peb_base.specs.Members.{IsIn}
@@ -28,7 +28,7 @@ use Rattle.flsm_model.specs.Events.{Event, Opened, Commit, Synced, Look, Hold, R
 use Rattle.flsm_model.specs.Jobs.{is_guard_from, IsLawful, IsMove, IsOfKind}
 use Rattle.flsm_model.specs.Outcomes.{IsEditOf, IsOutcome}
 use Rattle.flsm_model.specs.Legal.{Allowed, IsLegal, last_running}
-use Rattle.flsm_model.specs.Steps.{step, run, edited}
+use Rattle.flsm_model.specs.Steps.{step, run, with_edit}
 use Rattle.flsm_model.specs.Placing.{CutBefore, CutBeforeFrom, MovesAreCut, AlwaysCut}
 use Rattle.flsm_model.proofs.Members.{in_paired, from_move, from_merge, from_cut}
 use Rattle.flsm_model.proofs.Facts.{move_facts}
@@ -46,6 +46,10 @@ use Rattle.flsm_model.proofs.Undisturb.{chosen_left}
 use Rattle.flsm_model.proofs.Whole.{Stands, stands_base, stands_step}
 use Rattle.flsm_model.proofs.Jobs.{EachJob, FaultJobs, InEach, Ends, each_step}
 use Rattle.flsm_model.proofs.Lists.{all_in, any_in, in_kept}
+use Rattle.flsm_model.specs.Sound.{IsBounded}
+use Rattle.flsm_model.specs.Fits.{is_candidate}
+use Rattle.flsm_model.proofs.BoundLaw.{bound_from, empty_bounded}
+use Rattle.flsm_model.proofs.Needs.{level-meets}
 
 -- ---- which keys have a level
 
@@ -110,7 +114,7 @@ flush_chooses o s es x d i p m = elim (cases_Bool (is_chosen s.chosen x.key)) [
       (choice_in o x.key l.0 (filter (λ k. not (is_chosen s.chosen k)) (put_keys es)) (in_kept (λ k. not (is_chosen s.chosen k)) x.key (put_keys es) (put_key_in x es i p) (ap not absent)) l.1)
 ]
 
-pub puts_step : (o : Column) (bs : Batches) (t : Tree) (e : Edit) → 0 < o.last_level → Chooses o bs t e → PutsChosen o t → PutsChosen o (installed o bs t e)
+pub puts_step : (o : Column) (bs : Batches) (t : Tree) (e : Edit) → 0 < o.last_level → Chooses o bs t e → PutsChosen o t → PutsChosen o (tree_after o bs t e)
 puts_step o bs t (Open session log) d c h =
     record { chosen = λ u x i q. elim (after o bs t (Open session log) u i) [ inl a ↦ h.chosen u x a.0 q | inr b ↦ absurd b ] }
 puts_step o bs t (Flush row from to log chosen) d c h =
@@ -148,12 +152,18 @@ puts_step o bs t (Merge floor whole inputs outputs) d c h =
 
 puts_from : (o : Column) (bs : Batches) (t : Tree) (r : Record) → 0 < o.last_level → DescribedFrom o bs t r → PutsChosen o t → PutsChosen o (tree_from o bs t r)
 puts_from o bs t [] d h p = p
-puts_from o bs t (e ∷ es) d h p = puts_from o bs (installed o bs t e) es d h.2 (puts_step o bs t e d h.1 p)
+puts_from o bs t (e ∷ es) d h p = puts_from o bs (tree_after o bs t e) es d h.2 (puts_step o bs t e d h.1 p)
 
 pub puts_now : (o : Column) (w : Standing) → 0 < o.last_level → All o w → PutsChosen o w.tree
 puts_now o w d h =
     let b = h.told.books in
     subst (PutsChosen o) (sym b.tree) (puts_from o w.batches (empty_tree o) w.edits d b.described (record { chosen = λ u x i. absurd i }))
+
+-- each chosen key stands at its level
+choices_now : (o : Column) (w : Standing) → All o w → (c : Chosen) → IsIn c w.tree.shape.chosen → level_of o c.key ≡ Some c.level
+choices_now o w h =
+    let b = h.told.books in
+    (subst (IsBounded o) (sym (shape_told o w.batches w.edits w.tree b)) (bound_from o (empty_shape o) w.edits b.legal (empty_bounded o))).choices
 
 -- ---- a Move in flight has its candidates cut
 
@@ -176,13 +186,14 @@ cut_starts o d w n j al eq l = record { cut = λ k u x i m q p me. by k (subst (
         let c = any_in (λ (c : Chosen). key_eq x.key c.key) w.tree.shape.chosen ch in
         let same : x.key ≡ c.0.key = (bytes_decides x.key c.0.key).0 c.2 in
         let inside : in_range j.lo j.hi x.key ≡ true = keys_inside o w.tree j al.holds.sound.rows al.holds.sound.spans al.holds.sound.known mv.inside u x i m q in
-        let all = all_in (λ (c : Chosen). not (meets o (suc j.level) c.key && in_range j.lo j.hi c.key) || is_guard_from w.tree.shape c.key (suc j.level) (suc o.last_level - suc j.level)) c.0 w.tree.shape.chosen mv.committed c.1 in
+        let level : nat_le c.0.level (suc j.level) ≡ true = level-meets o c.0.key (suc j.level) c.0.level (choices_now o w al c.0 c.1) (omega arith) ∙ subst (λ z. meets o (suc j.level) z ≡ true) same me in
+        let all = all_in (λ (c : Chosen). not (nat_le c.level (suc j.level) && in_range j.lo j.hi c.key) || is_guard_from w.tree.shape c.key (suc j.level) (suc o.last_level - suc j.level)) c.0 w.tree.shape.chosen mv.committed c.1 in
         elim (or_cases _ _ all) [
-          | inl absent ↦ absurd (true≢false (sym (subst (λ z. (meets o (suc j.level) z && in_range j.lo j.hi z) ≡ true) same (and_from _ _ me inside)) ∙ not-true _ absent))
+          | inl absent ↦ absurd (true≢false (sym (and_from _ _ level (subst (λ z. in_range j.lo j.hi z ≡ true) same inside)) ∙ not-true _ absent))
           | inr g ↦ subst (λ z. is_guard w.tree.shape (suc j.level) z ≡ true) (sym same) (first_guard w.tree.shape c.0.key (suc j.level) (suc o.last_level - suc j.level) (omega (arith, f.above)) g)
         ]
 
-cut_kept : (o : Column) (w : Standing) (n : Session) (j k : Job) (e : Edit) → All o w → w.session ≡ Some n → Ends o w n j k e → IsCutFor o w.tree j → IsCutFor o w.tree k → IsCutFor o (installed o w.batches w.tree e) k
+cut_kept : (o : Column) (w : Standing) (n : Session) (j k : Job) (e : Edit) → All o w → w.session ≡ Some n → Ends o w n j k e → IsCutFor o w.tree j → IsCutFor o w.tree k → IsCutFor o (tree_after o w.batches w.tree e) k
 cut_kept o w n j k e al eq en hj hk =
     let jobs : JobsIn o w.tree n = subst (JobsHold o w.tree) eq al.holds.jobs in
     record {
@@ -193,10 +204,17 @@ cut_kept o w n j k e al eq en hj hk =
     }
 
 -- the outcome of a job in flight finds its candidates cut
-cut_outcome : (o : Column) (w : Standing) (n : Session) (j : Job) (e : Edit) → IsOutcome o w n j e → IsCutFor o w.tree j → CutBefore o w.tree e
-cut_outcome o w n j e out h = by j.kind refl e out.formed.same
+cut_outcome : (o : Column) (w : Standing) (n : Session) (j : Job) (e : Edit) → All o w → IsOutcome o w n j e → IsCutFor o w.tree j → CutBefore w.tree e
+cut_outcome o w n j e al out h = by j.kind refl e out.formed.same
   where
-    by : (a : JobKind) → j.kind ≡ a → (e : Edit) → IsEditOf a n j e → CutBefore o w.tree e
+    met : (level : ℕ) (k : Bytes) → is_candidate w.tree.shape.chosen (suc level) k ≡ true → meets o (suc level) k ≡ true
+    met level k c =
+        let d = any_in (λ (z : Chosen). nat_le z.level (suc level) && key_eq k z.key) w.tree.shape.chosen c in
+        let p = and_parts (nat_le d.0.level (suc level)) (key_eq k d.0.key) d.2 in
+        subst (λ z. meets o (suc level) z ≡ true) (sym ((bytes_decides k d.0.key).0 p.1))
+        (sym (level-meets o d.0.key (suc level) d.0.level (choices_now o w al d.0 d.1) (omega arith)) ∙ p.0)
+
+    by : (a : JobKind) → j.kind ≡ a → (e : Edit) → IsEditOf a n j e → CutBefore w.tree e
     by FlushJob k (Flush row from to log chosen) q = tt
     by FlushJob k (Open session log) q = absurd q
     by FlushJob k (Move level fl inputs outputs) q = absurd q
@@ -205,7 +223,7 @@ cut_outcome o w n j e out h = by j.kind refl e out.formed.same
     by MoveJob k (Move level fl inputs outputs) q =
         λ u x i m r p c.
         subst (λ l. is_guard w.tree.shape (suc l) x.key ≡ true) (sym q.0)
-        (h.cut k u x i (subst (λ ns. has_number u.row.number ns ≡ true) q.2 m) r p (subst (λ l. meets o (suc l) x.key ≡ true) q.0 (and_parts _ _ c).1))
+        (h.cut k u x i (subst (λ ns. has_number u.row.number ns ≡ true) q.2 m) r p (subst (λ l. meets o (suc l) x.key ≡ true) q.0 (met level x.key c)))
     by MoveJob k (Open session log) q = absurd q
     by MoveJob k (Flush row from to log chosen) q = absurd q
     by MoveJob k (Cut level keys inputs outputs) q = absurd q
@@ -227,26 +245,26 @@ cut_same : (o : Column) (bs cs : Batches) (k : ℕ) (t : Tree) (r : Record) → 
 cut_same o bs cs k t [] a f l d = tt
 cut_same o bs cs k t (e ∷ es) a f l d =
     let p = and_parts (fits o t.shape e) _ f in
-    let le : (grown t.shape e).to ≤ k = omega (arith, to_grows_from o (grown t.shape e) es p.1) in
-    (d.0, subst (λ u. CutBeforeFrom o cs u es) (installed_same o bs cs k t e a le) (cut_same o bs cs k (installed o bs t e) es a p.1 l d.1))
+    let le : (shape_after t.shape e).to ≤ k = omega (arith, to_grows_from o (shape_after t.shape e) es p.1) in
+    (d.0, subst (λ u. CutBeforeFrom o cs u es) (installed_same o bs cs k t e a le) (cut_same o bs cs k (tree_after o bs t e) es a p.1 l d.1))
 
-cut_push : (o : Column) (bs : Batches) (t : Tree) (r : Record) (e : Edit) → CutBeforeFrom o bs t r → CutBefore o (tree_from o bs t r) e → CutBeforeFrom o bs t (r ++ e ∷ [])
+cut_push : (o : Column) (bs : Batches) (t : Tree) (r : Record) (e : Edit) → CutBeforeFrom o bs t r → CutBefore (tree_from o bs t r) e → CutBeforeFrom o bs t (r ++ e ∷ [])
 cut_push o bs t [] e d c = (c, tt)
-cut_push o bs t (x ∷ r) e d c = (d.0, cut_push o bs (installed o bs t x) r e d.1 c)
+cut_push o bs t (x ∷ r) e d c = (d.0, cut_push o bs (tree_after o bs t x) r e d.1 c)
 
 tree_append : (o : Column) (bs : Batches) (t : Tree) (r es : Record) → tree_from o bs t (r ++ es) ≡ tree_from o bs (tree_from o bs t r) es
 tree_append o bs t [] es = refl
-tree_append o bs t (x ∷ r) es = tree_append o bs (installed o bs t x) r es
+tree_append o bs t (x ∷ r) es = tree_append o bs (tree_after o bs t x) r es
 
 shape_append : (s : Shape) (r es : Record) → shape_from s (r ++ es) ≡ shape_from (shape_from s r) es
 shape_append s [] es = refl
-shape_append s (x ∷ r) es = shape_append (grown s x) r es
+shape_append s (x ∷ r) es = shape_append (shape_after s x) r es
 
 pub fit_append : (o : Column) (s : Shape) (r es : Record) → fit_from o s (r ++ es) ≡ true → (fit_from o s r ≡ true) × (fit_from o (shape_from s r) es ≡ true)
 fit_append o s [] es h = (refl, h)
 fit_append o s (x ∷ r) es h =
     let p = and_parts (fits o s x) _ h in
-    let q = fit_append o (grown s x) r es p.1 in
+    let q = fit_append o (shape_after s x) r es p.1 in
     (and_from _ _ p.0 q.0, q.1)
 
 assoc : (r es : Record) (e : Edit) → (r ++ es) ++ e ∷ [] ≡ r ++ (es ++ e ∷ [])
@@ -254,14 +272,14 @@ assoc [] es e = refl
 assoc (x ∷ r) es e = ap (λ z. x ∷ z) (assoc r es e)
 
 -- one edit more
-moves_edit : (o : Column) (r : Record) (w : Standing) (e : Edit) (w2 : Standing) → w2.batches ≡ w.batches → w2.edits ≡ w.edits ++ e ∷ [] → All o w → CutBefore o w.tree e → MovesAreCut o r w → MovesAreCut o r w2
+moves_edit : (o : Column) (r : Record) (w : Standing) (e : Edit) (w2 : Standing) → w2.batches ≡ w.batches → w2.edits ≡ w.edits ++ e ∷ [] → All o w → CutBefore w.tree e → MovesAreCut o r w → MovesAreCut o r w2
 moves_edit o r w e w2 sb se al c h =
     let now : w.tree ≡ tree_from o w.batches (tree_of o w.batches r) h.since =
     al.told.books.tree ∙ ap (tree_of o w.batches) h.edits ∙ tree_append o w.batches (empty_tree o) r h.since in
     record {
       since = h.since ++ e ∷ [];
       edits = se ∙ ap (λ z. z ++ e ∷ []) h.edits ∙ assoc r h.since e;
-      cut = subst (λ bs. CutBeforeFrom o bs (tree_of o bs r) (h.since ++ e ∷ [])) (sym sb) (cut_push o w.batches (tree_of o w.batches r) h.since e h.cut (subst (λ t. CutBefore o t e) now c));
+      cut = subst (λ bs. CutBeforeFrom o bs (tree_of o bs r) (h.since ++ e ∷ [])) (sym sb) (cut_push o w.batches (tree_of o w.batches r) h.since e h.cut (subst (λ t. CutBefore t e) now c));
     }
 
 -- other batches
@@ -312,7 +330,7 @@ moves_step o r w (Done actor e) al ea h a = by w.session a ea
     by None x y = absurd x
     by (Some n) x y =
         let out = job_in n.running actor (λ k. IsOutcome o w n k e) x.1 in
-        moves_edit o r w e _ refl refl al (cut_outcome o w n out.0 e out.2 (y.0 (actor, out.0) out.1)) h
+        moves_edit o r w e _ refl refl al (cut_outcome o w n out.0 e al out.2 (y.0 (actor, out.0) out.1)) h
 moves_step o r w (Short actor cause bytes) al ea h a = same_moves o r w _ refl refl h
 moves_step o r w JournalFault al ea h a = same_moves o r w _ refl refl h
 moves_step o r w (Stop m None) al ea h a = by w.session a al.shows.session
@@ -326,8 +344,8 @@ moves_step o r w (Stop m (Some e)) al ea h a = by w.session a ea al.shows.sessio
     by None x y z = absurd x
     by (Some n) x y z =
         let out = job_in (last_running n) x.2.0 (λ q. IsOutcome o w n q e) x.2.1 in
-        let mid : Standing = edited o w e in
-        let one : MovesAreCut o r mid = moves_edit o r w e mid refl refl al (cut_outcome o w n out.0 e out.2 (last_each (IsCutFor o) w.tree n y (x.2.0, out.0) out.1)) h in
+        let mid : Standing = with_edit o w e in
+        let one : MovesAreCut o r mid = moves_edit o r w e mid refl refl al (cut_outcome o w n out.0 e al out.2 (last_each (IsCutFor o) w.tree n y (x.2.0, out.0) out.1)) h in
         let books : Books o mid.batches mid.edits mid.tree = books_edit o w.batches w.edits w.tree e al.told.books out.2.formed.fit (out.2.holds al.holds.tells) (out.2.chooses al.holds.tells) in
         moves_batches o r mid _ m refl (agree_drop 0 m w.batches al.placed.ordered x.0) (omega (arith, to_after o w n out.0 e out.2.formed.same z, x.1)) books one
 

@@ -15,7 +15,7 @@ use Rattle.flsm_model.specs.declared.job.Job.{Job}
 use Rattle.flsm_model.specs.Compaction.{kept, is_kept, pieces, some_entries, before_key, from_key}
 use Rattle.flsm_model.specs.Shape.{guards_at, has_number, rows_numbered, outputs_of, inputs_of}
 use Rattle.flsm_model.specs.Fits.{numbers_ascend}
-use Rattle.flsm_model.specs.Trees.{Describes, Table, Tree, rows_of, content_of, merged, contents, paired, written_by, tables_numbered, tables_without, installed}
+use Rattle.flsm_model.specs.Trees.{Describes, Table, Tree, rows_of, content_of, merged, contents, paired, written_by, tables_numbered, tables_without, tree_after}
 use Rattle.flsm_model.specs.Writes.{total}
 use Rattle.flsm_model.specs.Settling.{entries_in, entries_taken, entries_frozen, OutcomesConserve}
 use Rattle.flsm_model.specs.Shape.{Record}
@@ -116,7 +116,7 @@ counted_paired o [] (c ∷ cs) h = absurd h
 counted_paired o (r ∷ rs) [] h = absurd h
 counted_paired o (r ∷ rs) (c ∷ cs) h = (h.0.tells.entries ∙ size_length c, counted_paired o rs cs h.1)
 
-pub counted_step : (o : Column) (bs : Batches) (t : Tree) (e : Edit) → AllZip (Describes o) (outputs_of e) (contents o bs t e) → Counted t.tables → Counted (installed o bs t e).tables
+pub counted_step : (o : Column) (bs : Batches) (t : Tree) (e : Edit) → AllZip (Describes o) (outputs_of e) (contents o bs t e) → Counted t.tables → Counted (tree_after o bs t e).tables
 counted_step o bs t e d h =
     each-append (λ (x : Table). x.row.entries ≡ size x.entries) (tables_without (inputs_of e) t.tables) (written_by o bs t e)
     (each-filter (λ (x : Table). x.row.entries ≡ size x.entries) _ t.tables h) (counted_paired o (outputs_of e) (contents o bs t e) d)
@@ -186,7 +186,7 @@ merge_conserves o bs t floor whole inputs outputs d r c a =
 
 counted_from : (o : Column) (bs : Batches) (t : Tree) (r : Record) → DescribedFrom o bs t r → Counted t.tables → Counted (tree_from o bs t r).tables
 counted_from o bs t [] d c = c
-counted_from o bs t (e ∷ es) d c = counted_from o bs (installed o bs t e) es d.2 (counted_step o bs t e d.0 c)
+counted_from o bs t (e ∷ es) d c = counted_from o bs (tree_after o bs t e) es d.2 (counted_step o bs t e d.0 c)
 
 conserves : (o : Column) (w : Standing) (n : Session) (j : Job) (e : Edit) → All o w → IsOutcome o w n j e → Counted w.tree.tables
     → entries_in (outputs_of e) ≤ entries_taken w.tree.shape (entries_frozen w n) e

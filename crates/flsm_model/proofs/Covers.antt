@@ -7,7 +7,7 @@ use Rattle.peb_base.specs.Keys.{Bytes, key_lt}
 use Rattle.peb_base.specs.Batches.{Batches}
 use Rattle.peb_base.specs.Entries.{in_order, put_in, entry_lt}
 use Rattle.flsm_model.specs.Compaction.{pieces, some_entries, before_key, from_key, kept, is_put}
-use Rattle.flsm_model.specs.Trees.{Describes, Table, Tree, content_of, merged, contents, paired, written_by, installed, tables_without}
+use Rattle.flsm_model.specs.Trees.{Describes, Table, Tree, content_of, merged, contents, paired, written_by, tree_after, tables_without}
 use Rattle.peb_base.specs.declared.entry.Entry.{Entry}
 use Rattle.peb_base.specs.declared.table_row.TableRow.{TableRow}
 use Rattle.peb_base.specs.Profiles.{Column}
@@ -98,13 +98,13 @@ apart_new : (session : ℕ) (used : List ℕ) (rows : List TableRow) (cs : List 
 apart_new session used rows cs t u h i k e = differ_of rows cs t u (and_parts _ _ h).1 i k e
 
 pub one_step : (o : Column) (bs : Batches) (t : Tree) (e : Edit) → rows_are_new t.shape.session t.shape.used (outputs_of e) ≡ true
-    → ((u : Table) → IsIn u t.tables → is_fresh t.shape u.row.number ≡ false) → OneByNumber t.tables → OneByNumber (installed o bs t e).tables
+    → ((u : Table) → IsIn u t.tables → is_fresh t.shape u.row.number ≡ false) → OneByNumber t.tables → OneByNumber (tree_after o bs t e).tables
 one_step o bs t e new known h = record { one = go }
   where
     fresh : (u : Table) → IsIn u (written_by o bs t e) → is_fresh t.shape u.row.number ≡ true
     fresh u i = let p = new_is_fresh t.shape.session t.shape.used (outputs_of e) u.row new (in_paired u (outputs_of e) (contents o bs t e) i).0 in and_from _ _ p.0 (ap not p.1)
 
-    go : (a b : Table) → IsIn a (installed o bs t e).tables → IsIn b (installed o bs t e).tables → a.row.number ≡ b.row.number → a ≡ b
+    go : (a b : Table) → IsIn a (tree_after o bs t e).tables → IsIn b (tree_after o bs t e).tables → a.row.number ≡ b.row.number → a ≡ b
     go a b i k s = elim (after o bs t e a i) [
       | inl x ↦ elim (after o bs t e b k) [
         | inl y ↦ h.one a b x.0 y.0 s
@@ -156,16 +156,16 @@ live_before t ns h x = (to, from)
 compacted : (o : Column) (bs : Batches) (t : Tree) (e : Edit) (floor : ℕ) (whole : Bool) → AllZip (Describes o) (outputs_of e) (contents o bs t e)
     → ((x : Entry) (c : List Entry) → IsIn c (contents o bs t e) → IsIn x c → IsIn x (kept (merged t.tables (inputs_of e)) floor whole))
     → ((x : Entry) → IsIn x (kept (merged t.tables (inputs_of e)) floor whole) → (c : List Entry) × IsIn c (contents o bs t e) × IsIn x c)
-    → (x : Entry) → Live (installed o bs t e) x ↔ After (merged t.tables (inputs_of e)) floor whole (Aside t (inputs_of e)) x
+    → (x : Entry) → Live (tree_after o bs t e) x ↔ After (merged t.tables (inputs_of e)) floor whole (Aside t (inputs_of e)) x
 compacted o bs t e floor whole d source covered x = (to, from)
   where
-    to : Live (installed o bs t e) x → After (merged t.tables (inputs_of e)) floor whole (Aside t (inputs_of e)) x
+    to : Live (tree_after o bs t e) x → After (merged t.tables (inputs_of e)) floor whole (Aside t (inputs_of e)) x
     to l = elim (after o bs t e l.table l.among) [
       | inl a ↦ inr (record { table = l.table; among = a.0; no_input = a.1; inside = l.inside })
       | inr b ↦ inl (source x l.table.entries (in_paired l.table (outputs_of e) (contents o bs t e) b).1 l.inside)
     ]
 
-    from : After (merged t.tables (inputs_of e)) floor whole (Aside t (inputs_of e)) x → Live (installed o bs t e) x
+    from : After (merged t.tables (inputs_of e)) floor whole (Aside t (inputs_of e)) x → Live (tree_after o bs t e) x
     from p = elim p [
       | inl i ↦
           let c = covered x i in
@@ -192,7 +192,7 @@ module _ (o : Column) (bs : Batches) (t : Tree) (one : OneByNumber t.tables) (fl
       → ((x : Entry) → IsIn x (kept (merged t.tables (inputs_of e)) floor whole) → (c : List Entry) × IsIn c (contents o bs t e) × IsIn x c)
       → (whole ≡ true → (x y : Entry) → Aside t (inputs_of e) x → IsIn y (merged t.tables (inputs_of e)) → x.key ≡ y.key → y.number < x.number)
       → (m : ℕ) → (floor ≤ m) ⊎ (t.shape.to ≤ m) → (x : Entry) → is_put x.change ≡ true
-      → IsNewest (Live t) x m ↔ IsNewest (Live (installed o bs t e)) x m
+      → IsNewest (Live t) x m ↔ IsNewest (Live (tree_after o bs t e)) x m
   same_shown e floor whole d source covered newer m low x put =
       let es = merged t.tables (inputs_of e) in
       let b = live_before t (inputs_of e) one in
@@ -200,13 +200,13 @@ module _ (o : Column) (bs : Batches) (t : Tree) (one : OneByNumber t.tables) (fl
       let low2 : (floor ≤ m) ⊎ ((y : Entry) → Before es (Aside t (inputs_of e)) y → y.number ≤ m) =
       elim low [ inl f ↦ inl f | inr l ↦ inr (numbers_below (inputs_of e) m l) ] in
       let k = keeps_shown es floor whole (Aside t (inputs_of e)) m low2 newer x put in (
-        λ n. newest_same (After es floor whole (Aside t (inputs_of e))) (Live (installed o bs t e)) x m (λ y. ((a y).1, (a y).0)) (k.0 (newest_same (Live t) (Before es (Aside t (inputs_of e))) x m b n)),
-        λ n. newest_same (Before es (Aside t (inputs_of e))) (Live t) x m (λ y. ((b y).1, (b y).0)) (k.1 (newest_same (Live (installed o bs t e)) (After es floor whole (Aside t (inputs_of e))) x m a n)),
+        λ n. newest_same (After es floor whole (Aside t (inputs_of e))) (Live (tree_after o bs t e)) x m (λ y. ((a y).1, (a y).0)) (k.0 (newest_same (Live t) (Before es (Aside t (inputs_of e))) x m b n)),
+        λ n. newest_same (Before es (Aside t (inputs_of e))) (Live t) x m (λ y. ((b y).1, (b y).0)) (k.1 (newest_same (Live (tree_after o bs t e)) (After es floor whole (Aside t (inputs_of e))) x m a n)),
       )
 
   pub move_shows : (level floor : ℕ) (inputs : List ℕ) (outputs : List TableRow) → AllZip (Describes o) outputs (contents o bs t (Move level floor inputs outputs))
       → (m : ℕ) → (floor ≤ m) ⊎ (t.shape.to ≤ m) → (x : Entry) → is_put x.change ≡ true
-      → IsNewest (Live t) x m ↔ IsNewest (Live (installed o bs t (Move level floor inputs outputs))) x m
+      → IsNewest (Live t) x m ↔ IsNewest (Live (tree_after o bs t (Move level floor inputs outputs))) x m
   move_shows level floor inputs outputs d =
       same_shown (Move level floor inputs outputs) floor false d
       (λ x c i p. in_pieces x c (kept (merged t.tables inputs) floor false) (guards_at t.shape (suc level)) i p)
@@ -216,7 +216,7 @@ module _ (o : Column) (bs : Batches) (t : Tree) (one : OneByNumber t.tables) (fl
   pub merge_shows : (floor : ℕ) (whole : Bool) (inputs : List ℕ) (outputs : List TableRow) → AllZip (Describes o) outputs (contents o bs t (Merge floor whole inputs outputs))
       → (whole ≡ true → (v u : Table) → IsIn v t.tables → IsIn u t.tables → has_number u.row.number inputs ≡ true → has_number v.row.number inputs ≡ false → Newer v u)
       → (m : ℕ) → (floor ≤ m) ⊎ (t.shape.to ≤ m) → (x : Entry) → is_put x.change ≡ true
-      → IsNewest (Live t) x m ↔ IsNewest (Live (installed o bs t (Merge floor whole inputs outputs))) x m
+      → IsNewest (Live t) x m ↔ IsNewest (Live (tree_after o bs t (Merge floor whole inputs outputs))) x m
   merge_shows floor whole inputs outputs d newer =
       same_shown (Merge floor whole inputs outputs) floor whole d
       (λ x c i p. in_some_entries x c (kept (merged t.tables inputs) floor whole) i p)

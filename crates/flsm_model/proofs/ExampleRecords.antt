@@ -12,7 +12,7 @@ use Rattle.flsm_model.specs.declared.job_kind.JobKind.TheVariants.{Move as MoveJ
 use Rattle.flsm_model.specs.declared.job.Job.{Job}
 use Rattle.flsm_model.specs.Ranges.{range_of}
 use Rattle.flsm_model.specs.Compaction.{kept}
-use Rattle.flsm_model.specs.Shape.{Record, Shape, empty_shape, shape_of, guards_at, grown}
+use Rattle.flsm_model.specs.Shape.{Record, Shape, empty_shape, shape_of, guards_at, shape_after}
 use Rattle.flsm_model.specs.Fits.{fits, is_candidate, is_legal_record}
 use Rattle.flsm_model.specs.Trees.{Table, Tree, rows_of, empty_tree, contents, tree_of}
 use Rattle.flsm_model.specs.Writes.{writes_from, cuts_from}
@@ -39,7 +39,7 @@ abbrev chosen_shape : Shape
 chosen_shape = record (empty_shape small) { chosen = record { key = o_key; level = 1 } ∷ record { key = g_key; level = 2 } ∷ [] }
 
 abbrev candidates : ℕ → List Bool
-candidates level = map (is_candidate small chosen_shape level) (o_key ∷ g_key ∷ (97 ∷ []) ∷ [])
+candidates level = map (is_candidate chosen_shape.chosen level) (o_key ∷ g_key ∷ (97 ∷ []) ∷ [])
 
 candidates_of_1 : candidates 1 ≡ true ∷ false ∷ false ∷ []
 unfolding bits lib.Count.count_trailing_zeros
@@ -176,7 +176,7 @@ cut_takes_nothing : fits small moves_over (Cut 1 (o_key ∷ []) [] []) ≡ true
 unfolding bits lib.Count.count_trailing_zeros
 cut_takes_nothing = refl
 
-lies_in_o : range_of (guards_at (grown moves_over (Cut 1 (o_key ∷ []) [] [])) 1) o_key ≡ (o_key, None)
+lies_in_o : range_of (guards_at (shape_after moves_over (Cut 1 (o_key ∷ []) [] [])) 1) o_key ≡ (o_key, None)
 lies_in_o = refl
 
 nothing_counted : ledger (Cut 1 (o_key ∷ []) [] [] ∷ []) [] 1 ≡ nothing

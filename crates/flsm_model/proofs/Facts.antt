@@ -88,7 +88,7 @@ pub record CutFits (o : Column) (s : Shape) (level : ℕ) (keys : List Bytes) (i
   pub reached : list_all (in_range (range_of (guards_at s level) (first_of keys)).0 (range_of (guards_at s level) (first_of keys)).1) keys ≡ true
   pub keys_ascend : keys_ascend keys ≡ true
   pub some : is_some_list keys ≡ true
-  pub candidates : list_all (λ k. is_candidate o s level k && in_range (range_of (guards_at s level) (first_of keys)).0 (range_of (guards_at s level) (first_of keys)).1 k && not (is_guard s level k)
+  pub candidates : list_all (λ k. is_candidate s.chosen level k && in_range (range_of (guards_at s level) (first_of keys)).0 (range_of (guards_at s level) (first_of keys)).1 k && not (is_guard s level k)
       && (level == o.last_level || is_guard s (suc level) k)) keys ≡ true
   pub placed : list_all (λ r. lies_in (range_of (with_keys keys (guards_at s level)) r.smallest) r) outputs ≡ true
 

@@ -16,7 +16,7 @@ use Rattle.flsm_model.specs.declared.job_kind.JobKind.TheVariants.{Flush as Flus
 use Rattle.flsm_model.specs.declared.job.Job.{Job}
 use Rattle.flsm_model.specs.Shape.{Shape, has_number, inputs_of, guards_at}
 use Rattle.flsm_model.specs.Fits.{fits, is_straddled}
-use Rattle.flsm_model.specs.Trees.{Table, Tree, rows_of, contents, installed, written_by, tables_without, tables_numbered}
+use Rattle.flsm_model.specs.Trees.{Table, Tree, rows_of, contents, tree_after, written_by, tables_without, tables_numbered}
 use Rattle.flsm_model.proofs.Totals.{levels-paired}
 use Rattle.flsm_model.proofs.Facts.{move_facts, flush_facts, cut_facts, merge_facts, FlushFits}
 use Rattle.flsm_model.proofs.Bound.{inputs_at, inputs_pass}
@@ -55,7 +55,7 @@ pub record InFlight (o : Column) (t : Tree) (j : Job) : Type 0 where
 -- ---- members of the tables after an edit
 
 -- a table after the edit stood before and was no input, or was written by it
-pub after : (o : Column) (bs : Batches) (t : Tree) (e : Edit) (w : Table) → IsIn w (installed o bs t e).tables
+pub after : (o : Column) (bs : Batches) (t : Tree) (e : Edit) (w : Table) → IsIn w (tree_after o bs t e).tables
     → (IsIn w t.tables × (has_number w.row.number (inputs_of e) ≡ false)) ⊎ IsIn w (written_by o bs t e)
 after o bs t e w h = elim (in_append w (tables_without (inputs_of e) t.tables) (written_by o bs t e) h) [
   | inl a ↦ let p = in_filter (λ (x : Table). not (has_number x.row.number (inputs_of e))) w t.tables a in inl (p.0, not-true _ p.1)
@@ -69,7 +69,7 @@ moves_down : (o : Column) (bs : Batches) (t : Tree) (e : Edit) (from to : ℕ) �
     → ((w : Table) (x : Entry) → IsIn w (written_by o bs t e) → IsIn x w.entries → FromInput t (inputs_of e) x)
     → ((w u : Table) → IsIn w t.tables → IsIn u t.tables → has_number u.row.number (inputs_of e) ≡ true
     → has_number w.row.number (inputs_of e) ≡ false → w.row.level < to → Newer w u)
-    → Falls (installed o bs t e).tables
+    → Falls (tree_after o bs t e).tables
 moves_down o bs t e from to f le ins outs source newer = record { falls = go }
   where
     level_in : (u : Table) → IsIn u t.tables → has_number u.row.number (inputs_of e) ≡ true → u.row.level ≡ from
@@ -78,7 +78,7 @@ moves_down o bs t e from to f le ins outs source newer = record { falls = go }
     level_out : (w : Table) → IsIn w (written_by o bs t e) → w.row.level ≡ to
     level_out w i = each_in (λ (v : Table). v.row.level ≡ to) w (written_by o bs t e) outs i
 
-    go : (a b : Table) → IsIn a (installed o bs t e).tables → IsIn b (installed o bs t e).tables → a.row.level < b.row.level → Newer a b
+    go : (a b : Table) → IsIn a (tree_after o bs t e).tables → IsIn b (tree_after o bs t e).tables → a.row.level < b.row.level → Newer a b
     go a b i k l x y p q same = elim (after o bs t e a i) [
       | inl old ↦ elim (after o bs t e b k) [
         | inl old2 ↦ f.falls a b old.0 old2.0 l x y p q same
@@ -109,11 +109,11 @@ IsFor j (Merge floor whole inputs outputs) = (j.kind ≡ MergeJob) × (inputs �
 IsFor j e = ⊤
 
 pub falls_step : (o : Column) (bs : Batches) (t : Tree) (j : Job) (e : Edit) → fits o t.shape e ≡ true → rows_of t.tables ≡ t.shape.live
-    → Falls t.tables → AllFlushed t.tables t.shape.to → InFlight o t j → IsFor j e → Falls (installed o bs t e).tables
+    → Falls t.tables → AllFlushed t.tables t.shape.to → InFlight o t j → IsFor j e → Falls (tree_after o bs t e).tables
 falls_step o bs t j (Open session log) fit rows f fl run for =
     record { falls = λ a b i k. f.falls a b (old a i) (old b k) }
   where
-    old : (a : Table) → IsIn a (installed o bs t (Open session log)).tables → IsIn a t.tables
+    old : (a : Table) → IsIn a (tree_after o bs t (Open session log)).tables → IsIn a t.tables
     old a i = elim (after o bs t (Open session log) a i) [ inl h ↦ h.0 | inr h ↦ absurd h ]
 falls_step o bs t j (Flush row from to log chosen) fit rows f fl run for = record { falls = go }
   where
@@ -128,7 +128,7 @@ falls_step o bs t j (Flush row from to log chosen) fit rows f fl run for = recor
         let r : IsIn w.row (row ∷ []) = (in_paired w (row ∷ []) (contents o bs t e) i).0 in
         elim r [ inl s ↦ ap (λ (x : TableRow). x.level) s ∙ k.at | inr x ↦ absurd x ]
 
-    go : (a b : Table) → IsIn a (installed o bs t e).tables → IsIn b (installed o bs t e).tables → a.row.level < b.row.level → Newer a b
+    go : (a b : Table) → IsIn a (tree_after o bs t e).tables → IsIn b (tree_after o bs t e).tables → a.row.level < b.row.level → Newer a b
     go a b i m l x y p q same = elim (after o bs t e b m) [
       | inr new ↦ absurd (omega (arith, zero_level b new))
       | inl old2 ↦ elim (after o bs t e a i) [
@@ -162,7 +162,7 @@ falls_step o bs t j (Merge floor whole inputs outputs) fit rows f fl run for =
 
 -- what is flushed stays below the last flush
 pub flushed_step : (o : Column) (bs : Batches) (t : Tree) (e : Edit) → fits o t.shape e ≡ true → AllFlushed t.tables t.shape.to
-    → AllFlushed (installed o bs t e).tables (installed o bs t e).shape.to
+    → AllFlushed (tree_after o bs t e).tables (tree_after o bs t e).shape.to
 flushed_step o bs t (Open session log) fit fl = record { flushed = λ w x i p. elim (after o bs t (Open session log) w i) [ inl h ↦ fl.flushed w x h.0 p | inr h ↦ absurd h ] }
 flushed_step o bs t (Flush row from to log chosen) fit fl =
     let k = flush_facts o t.shape row from to log chosen fit in

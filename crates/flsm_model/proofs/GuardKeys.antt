@@ -10,7 +10,7 @@ use Rattle.peb_base.specs.declared.table_row.TableRow.{TableRow}
 use Rattle.peb_base.specs.Profiles.{Column}
 use Rattle.flsm_model.specs.declared.edit.Edit.{Edit}
 use Rattle.flsm_model.specs.declared.edit.Edit.TheVariants.{Open, Flush, Move, Cut, Merge}
-use Rattle.flsm_model.specs.Shape.{Shape, grown, guards_at}
+use Rattle.flsm_model.specs.Shape.{Shape, shape_after, guards_at}
 use Rattle.flsm_model.specs.Fits.{fits, is_guard}
 use Rattle.flsm_model.proofs.Facts.{cut_facts}
 use Rattle.flsm_model.proofs.InGuards.{InGuards, guards_after}
@@ -97,8 +97,8 @@ filter_withs p (k ∷ ks) gs h = let a = and_parts _ _ h in filter_with p k (wit
 
 -- the guards of a level stay, or those keys come that a Cut commits there
 pub data GuardsTurn (s : Shape) (e : Edit) (l : ℕ) : Type 0 where
-  Same : guards_at (grown s e) l ≡ guards_at s l → GuardsTurn s e l
-  More : (keys : List Bytes) (inputs : List ℕ) (outputs : List TableRow) → e ≡ Cut l keys inputs outputs → guards_at (grown s e) l ≡ with_keys keys (guards_at s l) → GuardsTurn s e l
+  Same : guards_at (shape_after s e) l ≡ guards_at s l → GuardsTurn s e l
+  More : (keys : List Bytes) (inputs : List ℕ) (outputs : List TableRow) → e ≡ Cut l keys inputs outputs → guards_at (shape_after s e) l ≡ with_keys keys (guards_at s l) → GuardsTurn s e l
 
 pub guards_turn : (o : Column) (s : Shape) (e : Edit) (l : ℕ) → InGuards o s → fits o s e ≡ true → GuardsTurn s e l
 guards_turn o s e zero h f = Same refl
@@ -114,9 +114,9 @@ guards_turn o s (Cut level keys inputs outputs) (suc l) h f =
     ]
 
 -- a guard stays one
-pub guard_stays : (o : Column) (s : Shape) (e : Edit) (l : ℕ) (k : Bytes) → InGuards o s → fits o s e ≡ true → is_guard s l k ≡ true → is_guard (grown s e) l k ≡ true
+pub guard_stays : (o : Column) (s : Shape) (e : Edit) (l : ℕ) (k : Bytes) → InGuards o s → fits o s e ≡ true → is_guard s l k ≡ true → is_guard (shape_after s e) l k ≡ true
 guard_stays o s e l k h f g = by (guards_turn o s e l h f)
   where
-    by : GuardsTurn s e l → has_key k (guards_at (grown s e) l) ≡ true
+    by : GuardsTurn s e l → has_key k (guards_at (shape_after s e) l) ≡ true
     by (Same q) = rw q g
     by (More keys inputs outputs s2 q) = rw q (has_withs k keys (guards_at s l) g)

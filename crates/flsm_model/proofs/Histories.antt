@@ -5,13 +5,13 @@ use Rattle.std.specs.List.{AllZip}
 use Rattle.std.proofs.lemmas.Bool.{and_parts, and_right, eqb-true, eqb-false, eq-eqb, ne_eqb, ltb-true, not-true}
 use Rattle.peb_base.specs.Batches.{Batches}
 use Rattle.peb_base.specs.Numbers.{session_of}
-use Rattle.flsm_model.specs.Trees.{Describes, Table, Tree, contents, installed}
+use Rattle.flsm_model.specs.Trees.{Describes, Table, Tree, contents, tree_after}
 use Rattle.peb_base.specs.declared.table_row.TableRow.{TableRow}
 use Rattle.peb_base.specs.Profiles.{Column}
 use Rattle.flsm_model.specs.declared.edit.Edit.{Edit}
 use Rattle.flsm_model.specs.declared.edit.Edit.TheVariants.{Open, Flush, Move, Cut, Merge}
 use Rattle.flsm_model.specs.declared.job.Job.{Job}
-use Rattle.flsm_model.specs.Shape.{Shape, has_number, grown, outputs_of, rows_without}
+use Rattle.flsm_model.specs.Shape.{Shape, has_number, shape_after, outputs_of, rows_without}
 use Rattle.flsm_model.specs.Fits.{fits, rows_are_new}
 use Rattle.flsm_model.specs.Events.{Event, Opened, Commit, Synced, Look, Hold, Release, Freeze, Begin, Done, Short, JournalFault, Stop, Session, Standing, Running}
 use Rattle.flsm_model.specs.Steps.{job_of, without_job, step, run}
@@ -74,7 +74,7 @@ known_more s ns outs s2 session used live new k = record { known = known; older 
       | inr b ↦ rw session (omega (arith, eqb-true (session_of r.number) s.session (new_is_fresh s.session s.used outs r new b).0))
     ]
 
-pub known_step : (o : Column) (s : Shape) (e : Edit) → fits o s e ≡ true → Known s → Known (grown s e)
+pub known_step : (o : Column) (s : Shape) (e : Edit) → fits o s e ≡ true → Known s → Known (shape_after s e)
 known_step o s (Open session log) f k =
     let newer : s.session < session = ltb-true s.session session (and_parts _ _ (and_parts _ _ (and_parts _ _ f).0).0).0 in
     record {
@@ -87,7 +87,7 @@ known_step o s (Cut level keys inputs outputs) f k = known_more s inputs outputs
 known_step o s (Merge floor whole inputs outputs) f k = known_more s inputs outputs _ refl refl refl (fresh_rows o s (Merge floor whole inputs outputs) f) k
 
 pub sound_step : (o : Column) (bs : Batches) (t : Tree) (j : Job) (e : Edit) → fits o t.shape e ≡ true → AllZip (Describes o) (outputs_of e) (contents o bs t e)
-    → Sound o t → InFlight o t j → IsFor j e → Sound o (installed o bs t e)
+    → Sound o t → InFlight o t j → IsFor j e → Sound o (tree_after o bs t e)
 sound_step o bs t j e f d s run for =
     record {
       rows = rows_step o bs t e d s.rows;
@@ -99,7 +99,7 @@ sound_step o bs t j e f d s run for =
       known = known_step o t.shape e f s.known;
     }
 
-open_step : (o : Column) (bs : Batches) (t : Tree) (session log : ℕ) → fits o t.shape (Open session log) ≡ true → Sound o t → Sound o (installed o bs t (Open session log))
+open_step : (o : Column) (bs : Batches) (t : Tree) (session log : ℕ) → fits o t.shape (Open session log) ≡ true → Sound o t → Sound o (tree_after o bs t (Open session log))
 open_step o bs t session log f s =
     record {
       rows = rows_step o bs t (Open session log) tt s.rows;
@@ -111,7 +111,7 @@ open_step o bs t session log f s =
       known = known_step o t.shape (Open session log) f s.known;
     }
   where
-    old : (a : Table) → IsIn a (installed o bs t (Open session log)).tables → IsIn a t.tables
+    old : (a : Table) → IsIn a (tree_after o bs t (Open session log)).tables → IsIn a t.tables
     old a i = elim (after o bs t (Open session log) a i) [ inl h ↦ h.0 | inr h ↦ absurd h ]
 
 -- ---- the jobs in flight
@@ -152,7 +152,7 @@ job_in (r ∷ rs) actor P h = by (r.0 == actor) refl h (job_in rs actor P)
 
 -- the other jobs, once one has ended with its outcome
 ended : (o : Column) (w : Standing) (n : Session) (rs : List Running) (actor : ℕ) (j : Job) (e : Edit) → IsOutcome o w n j e → Sound o w.tree → IsIn (actor, j) rs
-    → AllInFlight o w.tree rs → AllInFlight o (installed o w.batches w.tree e) (without_job rs actor)
+    → AllInFlight o w.tree rs → AllInFlight o (tree_after o w.batches w.tree e) (without_job rs actor)
 ended o w n rs actor j e out s here h =
     record {
       each = λ r i.
@@ -261,7 +261,7 @@ holds_step o w (Done actor e) deep h a = by w.session refl a h.jobs
           sound = sound_step o w.batches w.tree out.0 e out.2.formed.fit (out.2.holds h.tells) h.sound mine (for_job n out.0 e out.2.formed.same);
           jobs = rw eq (record {
             now = ended o w n n.running actor out.0 e out.2 h.sound out.1 j.now;
-            fault = subst (JobsAt o (installed o w.batches w.tree e)) (sym x.0) tt;
+            fault = subst (JobsAt o (tree_after o w.batches w.tree e)) (sym x.0) tt;
           });
         }
 holds_step o w (Short actor cause bytes) deep h a =

@@ -13,7 +13,7 @@ use Rattle.peb_base.specs.declared.table_row.TableRow.{TableRow}
 use Rattle.peb_base.specs.Profiles.{Column}
 use Rattle.flsm_model.specs.declared.edit.Edit.{Edit}
 use Rattle.flsm_model.specs.declared.edit.Edit.TheVariants.{Open, Flush, Move, Cut, Merge}
-use Rattle.flsm_model.specs.Shape.{Shape, grown, exchanged, guards_at, rows_without, rows_numbered, has_number, outputs_of}
+use Rattle.flsm_model.specs.Shape.{Shape, shape_after, exchange_of, guards_at, rows_without, rows_numbered, has_number, outputs_of}
 use Rattle.flsm_model.specs.Fits.{fits, lies_in, first_smallest, input_range, lie_apart, is_new, rows_are_new, is_straddled}
 use Rattle.flsm_model.proofs.Facts.{CutFits, move_facts, flush_facts, cut_facts, merge_facts}
 use Rattle.flsm_model.proofs.Guards.{AscendFrom, same_range, ranges_kept, ascend_keys}
@@ -79,8 +79,8 @@ not_straddled guards (k ∷ ks) first r a own h out = by (straddles r k) refl (n
 
 -- the guards of the levels after a cut
 pub guards_after : (s : Shape) (level l : ℕ) (keys : List Bytes) (inputs : List ℕ) (outputs : List TableRow) → level - 1 < length s.guards → 1 ≤ level → 1 ≤ l
-    → ((l ≡ level) × (guards_at (grown s (Cut level keys inputs outputs)) l ≡ with_keys keys (guards_at s level)))
-    ⊎ ((l ≢ level) × (guards_at (grown s (Cut level keys inputs outputs)) l ≡ guards_at s l))
+    → ((l ≡ level) × (guards_at (shape_after s (Cut level keys inputs outputs)) l ≡ with_keys keys (guards_at s level)))
+    ⊎ ((l ≢ level) × (guards_at (shape_after s (Cut level keys inputs outputs)) l ≡ guards_at s l))
 guards_after s level zero keys inputs outputs within a b = absurd (omega arith)
 guards_after s level (suc l) keys inputs outputs within a b = elim (cases_eq (suc l) level) [
   | inl e ↦ let at : l ≡ level - 1 = omega arith in inl (e, ap (λ k. get_or (set s.guards (level - 1) gs) k []) at ∙ get_or-set_same s.guards (level - 1) gs [] within)
@@ -92,7 +92,7 @@ guards_after s level (suc l) keys inputs outputs within a b = elim (cases_eq (su
 
 -- where the guards don't change: what stays and what is added lie in guards
 kept_guards : (o : Column) (s : Shape) (e : Edit) → InGuards o s → rows_are_new s.session s.used (outputs_of e) ≡ true
-    → Each (λ r. lies_in (range_of (guards_at s r.level) r.smallest) r ≡ true) (outputs_of e) → InGuards o (exchanged s e)
+    → Each (λ r. lies_in (range_of (guards_at s r.level) r.smallest) r ≡ true) (outputs_of e) → InGuards o (exchange_of s e)
 kept_guards o s e h new outs =
     record {
       count = h.count;
@@ -109,7 +109,7 @@ at_level s level rs h g =
     each_both (λ r. (r.level == level) ≡ true) (λ r. lies_in (range_of (guards_at s level) r.smallest) r ≡ true) (λ r. lies_in (range_of (guards_at s r.level) r.smallest) r ≡ true) rs
     (λ r x y. subst (λ l. lies_in (range_of (guards_at s l) r.smallest) r ≡ true) (sym (eqb-true r.level level x)) y) (each_pass (λ r. r.level == level) rs h) g
 
-pub in_guards_step : (o : Column) (s : Shape) (e : Edit) → InGuards o s → fits o s e ≡ true → InGuards o (grown s e)
+pub in_guards_step : (o : Column) (s : Shape) (e : Edit) → InGuards o s → fits o s e ≡ true → InGuards o (shape_after s e)
 in_guards_step o s (Open session log) h f = record { count = h.count; ascend = h.ascend; rows = h.rows; inside = h.inside }
 in_guards_step o s (Flush row from to log chosen) h f =
     let k = flush_facts o s row from to log chosen f in
@@ -141,7 +141,7 @@ in_guards_step o s (Cut level keys inputs outputs) h f = cut_step (cut_facts o s
     range = range_of gs (first_of keys)
 
     kept : (k : CutFits o s level keys inputs outputs) (r : TableRow)
-        → (InGuard s r × (key_le r.smallest r.largest ≡ true)) → not (is_straddled level range keys r) ≡ true → InGuard (grown s (Cut level keys inputs outputs)) r
+        → (InGuard s r × (key_le r.smallest r.largest ≡ true)) → not (is_straddled level range keys r) ≡ true → InGuard (shape_after s (Cut level keys inputs outputs)) r
     kept k r h2 out l = elim (guards_after s level r.level keys inputs outputs (omega (arith, h.count, k.from, k.upto)) k.from l) [
       | inl e ↦
           let own : lies_in (range_of gs r.smallest) r ≡ true = subst (λ x. lies_in (range_of (guards_at s x) r.smallest) r ≡ true) e.0 (h2.0 l) in
@@ -155,29 +155,29 @@ in_guards_step o s (Cut level keys inputs outputs) h f = cut_step (cut_facts o s
         by false x own y e = not_straddled gs keys (first_of keys) r (h.ascend level) own (each_pass (in_range range.0 range.1) keys k.reached) x
 
     placed : (k : CutFits o s level keys inputs outputs) (r : TableRow)
-        → (r.level == level) ≡ true → lies_in (range_of new r.smallest) r ≡ true → InGuard (grown s (Cut level keys inputs outputs)) r
+        → (r.level == level) ≡ true → lies_in (range_of new r.smallest) r ≡ true → InGuard (shape_after s (Cut level keys inputs outputs)) r
     placed k r at h2 l = elim (guards_after s level r.level keys inputs outputs (omega (arith, h.count, k.from, k.upto)) k.from l) [
       | inl e ↦ subst (λ x. lies_in (range_of x r.smallest) r ≡ true) (sym e.1) h2
       | inr e ↦ absurd (e.0 (eqb-true r.level level at))
     ]
 
-    above : (k : CutFits o s level keys inputs outputs) (l : ℕ) → AscendFrom [] (guards_at (grown s (Cut level keys inputs outputs)) (suc l))
+    above : (k : CutFits o s level keys inputs outputs) (l : ℕ) → AscendFrom [] (guards_at (shape_after s (Cut level keys inputs outputs)) (suc l))
     above k l = elim (guards_after s level (suc l) keys inputs outputs (omega (arith, h.count, k.from, k.upto)) k.from (omega arith)) [
       | inl e ↦ subst (AscendFrom []) (sym e.1) (ascend_keys gs keys (h.ascend level))
       | inr e ↦ subst (AscendFrom []) (sym e.1) (h.ascend (suc l))
     ]
 
-    levels : (k : CutFits o s level keys inputs outputs) (l : ℕ) → AscendFrom [] (guards_at (grown s (Cut level keys inputs outputs)) l)
+    levels : (k : CutFits o s level keys inputs outputs) (l : ℕ) → AscendFrom [] (guards_at (shape_after s (Cut level keys inputs outputs)) l)
     levels k zero = tt
     levels k (suc l) = above k l
 
-    cut_step : CutFits o s level keys inputs outputs → InGuards o (grown s (Cut level keys inputs outputs))
+    cut_step : CutFits o s level keys inputs outputs → InGuards o (shape_after s (Cut level keys inputs outputs))
     cut_step k =
         record {
           count = length-set s.guards (level - 1) new ∙ h.count;
           ascend = levels k;
           rows = each-append (λ r. key_le r.smallest r.largest ≡ true) _ outputs (each-filter _ _ s.live h.rows) (new_rows s.session s.used outputs k.fresh);
-          inside = each-append (InGuard (grown s (Cut level keys inputs outputs))) (rows_without inputs s.live) outputs
+          inside = each-append (InGuard (shape_after s (Cut level keys inputs outputs))) (rows_without inputs s.live) outputs
               (each_both (λ r. InGuard s r × (key_le r.smallest r.largest ≡ true)) (λ r. not (is_straddled level range keys r) ≡ true) _ (rows_without inputs s.live) (kept k)
               (each-filter _ _ s.live (each_both (InGuard s) (λ r. key_le r.smallest r.largest ≡ true) _ s.live (λ r x y. (x, y)) h.inside h.rows))
               (each_pass _ (rows_without inputs s.live) k.others))

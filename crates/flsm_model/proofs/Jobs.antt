@@ -5,7 +5,7 @@ use Rattle.std.proofs.lemmas.Bool.{eqb-false, not-true}
 use Rattle.peb_base.specs.Profiles.{Column}
 use Rattle.flsm_model.specs.declared.edit.Edit.{Edit}
 use Rattle.flsm_model.specs.declared.job.Job.{Job}
-use Rattle.flsm_model.specs.Trees.{Tree, installed}
+use Rattle.flsm_model.specs.Trees.{Tree, tree_after}
 use Rattle.flsm_model.specs.Events.{Event, Opened, Commit, Synced, Look, Hold, Release, Freeze, Begin, Done, Short, JournalFault, Stop, Session, Standing, last_of, Running}
 use Rattle.flsm_model.specs.Claims.{jobs_conflict}
 use Rattle.flsm_model.specs.Outcomes.{IsOutcome}
@@ -104,7 +104,7 @@ ends_beside o w n actor e r ap num a i =
 module _ (o : Column) (K : Standing → Type 0) (J : Tree → Job → Type 0)
     (parts : (w : Standing) → K w → JobsApart w.session × Numbers w)
     (start : (w : Standing) (n : Session) (j : Job) → K w → w.session ≡ Some n → IsLawful o w n j → J w.tree j)
-    (keep : (w : Standing) (n : Session) (j k : Job) (e : Edit) → K w → w.session ≡ Some n → Ends o w n j k e → J w.tree j → J w.tree k → J (installed o w.batches w.tree e) k) where
+    (keep : (w : Standing) (n : Session) (j k : Job) (e : Edit) → K w → w.session ≡ Some n → Ends o w n j k e → J w.tree j → J w.tree k → J (tree_after o w.batches w.tree e) k) where
   pub each_step : (w : Standing) (e : Event) → K w → InEach J w.tree w.session → Allowed o w w.session e → InEach J (step o w e).tree (step o w e).session
   each_step w (Opened session log) al h a = by w.session a
     where
@@ -124,12 +124,12 @@ module _ (o : Column) (K : Standing → Type 0) (J : Tree → Job → Type 0)
   each_step w (Done actor e) al h a = by w.session refl a h (parts w al).0 (parts w al).1
     where
       by : (s : Option Session) → w.session ≡ s → Allowed o w s (Done actor e) → InEach J w.tree s → JobsApart s → NumbersHold w.tree.shape (last_of w) s
-          → InEach J (installed o w.batches w.tree e) (step o w (Done actor e)).session
+          → InEach J (tree_after o w.batches w.tree e) (step o w (Done actor e)).session
       by None eq x y ap num = absurd x
       by (Some n) eq x y ap num =
           rw eq (
             (λ r i. let b = ends_beside o w n actor e r ap.0 num x i in keep w n b.0 r.1 e al eq b.1 (y.0 (actor, b.0) b.2) (y.0 r b.3)),
-            subst (FaultJobs J (installed o w.batches w.tree e)) (sym x.0) tt,
+            subst (FaultJobs J (tree_after o w.batches w.tree e)) (sym x.0) tt,
           )
   each_step w (Short actor cause bytes) al h a =
       each_map J w.tree w.tree w.session _ (λ n e x. ((λ r i. x.0 r (in_filter (λ (z : Running). not (z.0 == actor)) r n.running i).0), x.1)) h

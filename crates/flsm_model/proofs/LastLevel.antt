@@ -7,7 +7,7 @@ use Rattle.peb_base.specs.Batches.{Batches, entries_of, are_in_order}
 use Rattle.peb_base.specs.Entries.{entries_between, in_order}
 use Rattle.peb_base.specs.Keys.{Bytes}
 use Rattle.flsm_model.specs.Compaction.{straddles}
-use Rattle.flsm_model.specs.Trees.{Table, Tree, rows_of, written_by, tables_without, tables_numbered, installed, tree_from}
+use Rattle.flsm_model.specs.Trees.{Table, Tree, rows_of, written_by, tables_without, tables_numbered, tree_after, tree_from}
 use Rattle.peb_base.specs.declared.table_row.TableRow.{TableRow}
 use Rattle.peb_base.specs.Profiles.{Column}
 use Rattle.flsm_model.specs.declared.edit.Edit.{Edit}
@@ -96,7 +96,7 @@ paid_by_cuts q keys (t ∷ ts) s h = by (holds q t.entries) refl (paid_by_cuts q
 
 last_step : (o : Column) (bs : Batches) (t : Tree) (e : Edit) (q level : ℕ) → are_in_order bs ≡ true → fits o t.shape e ≡ true
     → rows_of t.tables ≡ t.shape.live → copies_in q t.tables ≤ 1 → level ≤ o.last_level
-    → writes o bs t q level e + (copies_above q level (installed o bs t e).tables + unflushed q (installed o bs t e).shape.to)
+    → writes o bs t q level e + (copies_above q level (tree_after o bs t e).tables + unflushed q (tree_after o bs t e).shape.to)
     ≤ merged_of o bs t q level e + cuts_of t q level e + (copies_above q level t.tables + unflushed q t.shape.to)
 last_step o bs t (Open session log) q level b f rows one l =
     omega (arith, above-append q level (tables_without [] t.tables) [], above-parts q level [] t.tables)
@@ -184,7 +184,7 @@ last_from o bs t (e ∷ es) q level b f d rows one l =
     omega (
       arith,
       last_step o bs t e q level b p.0 rows (omega arith) l,
-      last_from o bs (installed o bs t e) es q level b p.1 d.2 (rows_step o bs t e d.0 rows) (omega (arith, place_step o bs t e q b p.0)) l,
+      last_from o bs (tree_after o bs t e) es q level b p.1 d.2 (rows_step o bs t e d.0 rows) (omega (arith, place_step o bs t e q b p.0)) l,
     )
 
 fits_one : (q to : ℕ) → unflushed q to ≤ 1

@@ -1,11 +1,10 @@
 -- Each wanted job is one of its kind, so that the one that is picked may begin.
-use Rattle.std.proofs.Common.{◌≡◌, ℕ, zero, suc, ◌+◌, ◌-◌, ◌<◌, ◌≤◌, Bool, true, ◌&&◌, ◌||◌, not, List, [], ◌∷◌, ◌++◌, map, length, inl, inr, refl, sym, ◌∙◌, ap, subst, arith}
+use Rattle.std.proofs.Common.{nat_le, ◌≡◌, ℕ, zero, suc, ◌+◌, ◌-◌, ◌<◌, ◌≤◌, Bool, true, ◌&&◌, ◌||◌, not, List, [], ◌∷◌, ◌++◌, map, length, inl, inr, refl, sym, ◌∙◌, ap, subst, arith}
 use Rattle.std.specs.Prelude.{◌==◌, nat_lt, filter, Option, Some, None}
 use Rattle.std.specs.List.{list_all}
-use Rattle.std.proofs.lemmas.Bool.{and_parts, and_from, or_left, or_right, cases_Bool, eq-eqb, ltb-true, lt-ltb, le-leb, true≢false, cases_lt}
+use Rattle.std.proofs.lemmas.Bool.{and_parts, and_from, or_left, or_right, cases_Bool, eq-eqb, ltb-true, lt-ltb, leb-true, le-leb, true≢false, cases_lt}
 use Rattle.peb_base.specs.Keys.{Bytes, key_eq}
-use Rattle.peb_base.specs.KeyLaws.{same_key}
-use Rattle.peb_base.specs.Choice.{meets}
+use Rattle.peb_base.specs.KeyLaws.{same_key, key_self}
 use Rattle.peb_base.specs.Members.{IsIn}
 use Rattle.peb_base.specs.Profiles.{column, Column}
 use Rattle.peb_base.specs.declared.table_row.TableRow.{TableRow}
@@ -26,10 +25,9 @@ use Rattle.flsm_model.proofs.Guards.{same_range, least}
 use Rattle.flsm_model.proofs.InGuards.{InGuards, start_in}
 use Rattle.flsm_model.proofs.NewRows.{first_range, some_rows}
 use Rattle.flsm_model.proofs.ShapeLaw.{records_sound}
-use Rattle.flsm_model.proofs.Committed.{meets_deeper}
 use Rattle.flsm_model.proofs.Picks.{find_in, in_map, taken_ascend, taken_live, taken_some, rows_pass, row_taken, others_fail, taken_row, range_is, range_has, begins_in, chosen_pass, pass_chosen, chosen_is, chosen_ascend, none_pass}
 use Rattle.flsm_model.proofs.Whole.{Formed, formed_always}
-use Rattle.flsm_model.proofs.Lists.{in_filter, in_append, any_in, all_of}
+use Rattle.flsm_model.proofs.Lists.{in_any, in_filter, in_append, any_in, all_of}
 
 some_of : {X : Type 0} (xs : List X) → 0 < length xs → (x : X) × IsIn x xs
 some_of [] l = absurd (omega (arith, l))
@@ -43,26 +41,33 @@ some_list : {X : Type 0} (x : X) (xs : List X) → IsIn x xs → is_some_list xs
 some_list x [] i = absurd i
 some_list x (y ∷ ys) i = refl
 
+-- a candidate of a level is one of each deeper level
+candidate_deeper : (cs : List Chosen) (level deeper : ℕ) (key : Bytes) → level ≤ deeper → is_candidate cs level key ≡ true → is_candidate cs deeper key ≡ true
+candidate_deeper cs level deeper key l h =
+    let c = any_in (λ (d : Chosen). nat_le d.level level && key_eq key d.key) cs h in
+    let p = and_parts (nat_le c.0.level level) (key_eq key c.0.key) c.2 in
+    in_any (λ (d : Chosen). nat_le d.level deeper && key_eq key d.key) c.0 cs c.1 (and_from _ _ (le-leb c.0.level deeper (omega (arith, leb-true c.0.level level p.0, l))) p.1)
+
 -- ---- the target of a range: a Cut at the deepest level where a candidate is missing, or the Move
 
 pub data Target (o : Column) (s : Shape) (level : ℕ) (range : Bytes × Option Bytes) (total : ℕ) (move k : Job) : Type 0 where
-  Moves : k ≡ move → ((d : ℕ) → d < total → missing o s level range (level + d) ≡ []) → Target o s level range total move k
-  Cuts : (c : ℕ) (key : Bytes) → c < total → IsIn key (missing o s level range (level + c)) → ((d : ℕ) → c < d → d < total → missing o s level range (level + d) ≡ [])
+  Moves : k ≡ move → ((d : ℕ) → d < total → missing s level range (level + d) ≡ []) → Target o s level range total move k
+  Cuts : (c : ℕ) (key : Bytes) → c < total → IsIn key (missing s level range (level + c)) → ((d : ℕ) → c < d → d < total → missing s level range (level + d) ≡ [])
       → k ≡ cut_job o s (level + c) (range_of (guards_at s (level + c)) key) → Target o s level range total move k
 
 target : (o : Column) (s : Shape) (level : ℕ) (range : Bytes × Option Bytes) (total count : ℕ) (move : Job) → count ≤ total
-    → ((d : ℕ) → count ≤ d → d < total → missing o s level range (level + d) ≡ []) → Target o s level range total move (job_at o s level range count move)
+    → ((d : ℕ) → count ≤ d → d < total → missing s level range (level + d) ≡ []) → Target o s level range total move (job_at o s level range count move)
 target o s level range total zero move l deep = Moves refl (λ d m. deep d (omega arith) m)
-target o s level range total (suc count) move l deep = by (missing o s level range (level + count)) refl (λ h. target o s level range total count move (omega (arith, l)) h)
+target o s level range total (suc count) move l deep = by (missing s level range (level + count)) refl (λ h. target o s level range total count move (omega (arith, l)) h)
   where
-    deeper : missing o s level range (level + count) ≡ [] → (d : ℕ) → count ≤ d → d < total → missing o s level range (level + d) ≡ []
+    deeper : missing s level range (level + count) ≡ [] → (d : ℕ) → count ≤ d → d < total → missing s level range (level + d) ≡ []
     deeper e d a b = elim (cases_lt count d) [
       | inl more ↦ deep d more b
-      | inr less ↦ let same : count ≡ d = omega (arith, a, less) in subst (λ x. missing o s level range (level + x) ≡ []) same e
+      | inr less ↦ let same : count ≡ d = omega (arith, a, less) in subst (λ x. missing s level range (level + x) ≡ []) same e
     ]
 
-    by : (m : List Bytes) → missing o s level range (level + count) ≡ m
-        → (((d : ℕ) → count ≤ d → d < total → missing o s level range (level + d) ≡ []) → Target o s level range total move (job_at o s level range count move))
+    by : (m : List Bytes) → missing s level range (level + count) ≡ m
+        → (((d : ℕ) → count ≤ d → d < total → missing s level range (level + d) ≡ []) → Target o s level range total move (job_at o s level range count move))
         → Target o s level range total move (cut_or o s (level + count) m (job_at o s level range count move))
     by [] e ih = ih (deeper e)
     by (key ∷ keys) e ih = Cuts count key l (subst (IsIn key) (sym e) (inl refl)) (λ d a b. deep d a b) refl
@@ -152,22 +157,22 @@ module _ (o : Column) (s : Shape) (g : InGuards o s) (sound : IsSound o s) (n : 
   -- which candidates are missing
 
   abbrev test : ℕ → Bytes × Option Bytes → ℕ → Bytes → Bool
-  test level range other key = meets o level key && in_range range.0 range.1 key && not (is_guard s other key)
+  test level range other key = is_candidate s.chosen level key && in_range range.0 range.1 key && not (is_guard s other key)
 
   -- a candidate of the range is a guard where none is missing
-  guard_there : (level : ℕ) (range : Bytes × Option Bytes) (other : ℕ) → missing o s level range other ≡ [] → (c : Chosen) → IsIn c s.chosen
-      → (meets o level c.key && in_range range.0 range.1 c.key) ≡ true → is_guard s other c.key ≡ true
+  guard_there : (level : ℕ) (range : Bytes × Option Bytes) (other : ℕ) → missing s level range other ≡ [] → (c : Chosen) → IsIn c s.chosen
+      → (is_candidate s.chosen level c.key && in_range range.0 range.1 c.key) ≡ true → is_guard s other c.key ≡ true
   guard_there level range other none c i h = elim (cases_Bool (is_guard s other c.key)) [
     | inl is ↦ is
     | inr e ↦ absurd (true≢false (sym (and_from _ _ h (ap not e)) ∙ none_pass (test level range other) s none c i))
   ]
 
-  guard_from : (level : ℕ) (range : Bytes × Option Bytes) (c : Chosen) → IsIn c s.chosen → (meets o level c.key && in_range range.0 range.1 c.key) ≡ true
-      → (at count : ℕ) → ((d : ℕ) → d < count → missing o s level range (at + d) ≡ []) → is_guard_from s c.key at count ≡ true
+  guard_from : (level : ℕ) (range : Bytes × Option Bytes) (c : Chosen) → IsIn c s.chosen → (is_candidate s.chosen level c.key && in_range range.0 range.1 c.key) ≡ true
+      → (at count : ℕ) → ((d : ℕ) → d < count → missing s level range (at + d) ≡ []) → is_guard_from s c.key at count ≡ true
   guard_from level range c i h at zero none = refl
   guard_from level range c i h at (suc count) none =
-      and_from _ _ (guard_there level range at (subst (λ x. missing o s level range x ≡ []) (plus_zero at) (none 0 (omega arith))) c i h)
-      (guard_from level range c i h (suc at) count (λ d l. subst (λ x. missing o s level range x ≡ []) (plus_one at d) (none (suc d) (omega (arith, l)))))
+      and_from _ _ (guard_there level range at (subst (λ x. missing s level range x ≡ []) (plus_zero at) (none 0 (omega arith))) c i h)
+      (guard_from level range c i h (suc at) count (λ d l. subst (λ x. missing s level range x ≡ []) (plus_one at d) (none (suc d) (omega (arith, l)))))
     where
       plus_zero : (a : ℕ) → a + 0 ≡ a
       plus_zero a = omega arith
@@ -175,16 +180,23 @@ module _ (o : Column) (s : Shape) (g : InGuards o s) (sound : IsSound o s) (n : 
       plus_one : (a d : ℕ) → a + suc d ≡ suc a + d
       plus_one a d = omega arith
 
+  -- a chosen key is a candidate of its level and of deeper ones
+  own_candidate : (level : ℕ) (range : Bytes × Option Bytes) (c : Chosen) → IsIn c s.chosen → (nat_le c.level level && in_range range.0 range.1 c.key) ≡ true
+      → (is_candidate s.chosen level c.key && in_range range.0 range.1 c.key) ≡ true
+  own_candidate level range c i h =
+      let p = and_parts (nat_le c.level level) (in_range range.0 range.1 c.key) h in
+      and_from _ _ (in_any (λ (d : Chosen). nat_le d.level level && key_eq c.key d.key) c s.chosen i (and_from _ _ p.0 (key_self c.key))) p.1
+
   move_kind : (level : ℕ) (range : Bytes × Option Bytes) → level < o.last_level → IsIn range (over_at o s level)
-      → ((d : ℕ) → d < o.last_level - level → missing o s (suc level) range (suc level + d) ≡ []) → IsMove o s n (begun (move_job s level range))
+      → ((d : ℕ) → d < o.last_level - level → missing s (suc level) range (suc level + d) ≡ []) → IsMove o s n (begun (move_job s level range))
   move_kind level range l over none =
       record {
         range = own_range level range over;
         fit = and_from _ _ (and_from _ _ (and_from _ _ (and_from _ _ (and_from _ _ (lt-ltb level o.last_level l) (are_in level range over)) refl) refl) refl) refl;
         inside = tables_in level range over;
         all = all_tables level range over;
-        committed = all_of _ s.chosen (λ c i. elim (cases_Bool (meets o (suc level) c.key && in_range range.0 range.1 c.key)) [
-          | inl h ↦ or_right (not (meets o (suc level) c.key && in_range range.0 range.1 c.key)) _ (guard_from (suc level) range c i h (suc level) (suc o.last_level - suc level) (λ d m. none d (omega (arith, m))))
+        committed = all_of _ s.chosen (λ c i. elim (cases_Bool (nat_le c.level (suc level) && in_range range.0 range.1 c.key)) [
+          | inl h ↦ or_right (not (nat_le c.level (suc level) && in_range range.0 range.1 c.key)) _ (guard_from (suc level) range c i (own_candidate (suc level) range c i h) (suc level) (suc o.last_level - suc level) (λ d m. none d (omega (arith, m))))
           | inr e ↦ or_left _ _ (ap not e)
         ]);
         keys = refl;
@@ -193,8 +205,8 @@ module _ (o : Column) (s : Shape) (g : InGuards o s) (sound : IsSound o s) (n : 
   -- a Cut at a level, by a key that is missing there and at no deeper level
 
   module _ (level : ℕ) (range : Bytes × Option Bytes) (c : ℕ) (key : Bytes) (from : 1 ≤ level) (upto : level + c ≤ o.last_level)
-      (here : IsIn key (missing o s level range (level + c)))
-      (below : level + c < o.last_level → missing o s level range (suc (level + c)) ≡ []) where
+      (here : IsIn key (missing s level range (level + c)))
+      (below : level + c < o.last_level → missing s level range (suc (level + c)) ≡ []) where
     abbrev M : ℕ
     M = level + c
 
@@ -210,11 +222,11 @@ module _ (o : Column) (s : Shape) (g : InGuards o s) (sound : IsSound o s) (n : 
     abbrev keys : List Bytes
     keys = chosen_keys (may_be_cut o s M cut_range) s
 
-    passes : (meets o level key && in_range range.0 range.1 key) ≡ true
-    passes = (and_parts (meets o level key && in_range range.0 range.1 key) (not (is_guard s M key)) (chosen_pass (test level range M) s key here)).0
+    passes : (is_candidate s.chosen level key && in_range range.0 range.1 key) ≡ true
+    passes = (and_parts (is_candidate s.chosen level key && in_range range.0 range.1 key) (not (is_guard s M key)) (chosen_pass (test level range M) s key here)).0
 
     fresh : not (is_guard s M key) ≡ true
-    fresh = (and_parts (meets o level key && in_range range.0 range.1 key) (not (is_guard s M key)) (chosen_pass (test level range M) s key here)).1
+    fresh = (and_parts (is_candidate s.chosen level key && in_range range.0 range.1 key) (not (is_guard s M key)) (chosen_pass (test level range M) s key here)).1
 
     chosen : is_chosen s.chosen key ≡ true
     chosen = chosen_is (test level range M) s key here
@@ -228,14 +240,14 @@ module _ (o : Column) (s : Shape) (g : InGuards o s) (sound : IsSound o s) (n : 
           let x = any_in (λ (z : Chosen). key_eq key z.key) s.chosen chosen in
           let same : key ≡ x.0.key = same_key key x.0.key x.2 in
           or_right (M == o.last_level) _ (subst (λ z. is_guard s (suc M) z ≡ true) (sym same)
-          (guard_there level range (suc M) (below less) x.0 x.1 (subst (λ z. (meets o level z && in_range range.0 range.1 z) ≡ true) same passes)))
+          (guard_there level range (suc M) (below less) x.0 x.1 (subst (λ z. (is_candidate s.chosen level z && in_range range.0 range.1 z) ≡ true) same passes)))
       | inr more ↦ let same : M ≡ o.last_level = omega (arith, more, upto) in or_left _ _ (eq-eqb M o.last_level same)
     ]
 
     own_key : may_be_cut o s M cut_range key ≡ true
     own_key =
-        let deeper : meets o M key ≡ true = meets_deeper o level M key (omega arith) (and_parts (meets o level key) _ passes).0 in
-        and_from _ _ (and_from _ _ (and_from _ _ (and_from _ _ chosen deeper) has) fresh) next
+        let deeper : is_candidate s.chosen M key ≡ true = candidate_deeper s.chosen level M key (omega arith) (and_parts (is_candidate s.chosen level key) _ passes).0 in
+        and_from _ _ (and_from _ _ (and_from _ _ deeper has) fresh) next
 
     own_in : IsIn key keys
     own_in =
@@ -248,9 +260,9 @@ module _ (o : Column) (s : Shape) (g : InGuards o s) (sound : IsSound o s) (n : 
 
     key_inside : (k : Bytes) → may_be_cut o s M cut_range k ≡ true → in_range cut_range.0 cut_range.1 k ≡ true
     key_inside k h =
-        let p3 = and_parts (is_candidate o s M k && in_range cut_range.0 cut_range.1 k && not (is_guard s M k)) (M == o.last_level || is_guard s (suc M) k) h in
-        let p2 = and_parts (is_candidate o s M k && in_range cut_range.0 cut_range.1 k) (not (is_guard s M k)) p3.0 in
-        (and_parts (is_candidate o s M k) (in_range cut_range.0 cut_range.1 k) p2.0).1
+        let p3 = and_parts (is_candidate s.chosen M k && in_range cut_range.0 cut_range.1 k && not (is_guard s M k)) (M == o.last_level || is_guard s (suc M) k) h in
+        let p2 = and_parts (is_candidate s.chosen M k && in_range cut_range.0 cut_range.1 k) (not (is_guard s M k)) p3.0 in
+        (and_parts (is_candidate s.chosen M k) (in_range cut_range.0 cut_range.1 k) p2.0).1
 
     first_range_is : range_of gs (first_of keys) ≡ cut_range
     first_range_is = same_range [] gs key (first_of keys) (g.ascend M) (key_inside (first_of keys) (chosen_pass (may_be_cut o s M cut_range) s (first_of keys) (first_in keys key own_in)))
@@ -292,7 +304,7 @@ module _ (o : Column) (s : Shape) (g : InGuards o s) (sound : IsSound o s) (n : 
   target_kind level range l over k (Moves is none) = subst (λ z. IsOfKind z.kind o s n (begun z)) (sym is) (move_kind level range l over none)
   target_kind level range l over k (Cuts c key few here deep is) =
       subst (λ z. IsOfKind z.kind o s n (begun z)) (sym is)
-      (cut_kind (suc level) range c key (omega arith) (omega (arith, few, l)) here (λ less. subst (λ x. missing o s (suc level) range x ≡ []) (plus_one level c) (deep (suc c) (omega arith) (omega (arith, less)))))
+      (cut_kind (suc level) range c key (omega arith) (omega (arith, few, l)) here (λ less. subst (λ x. missing s (suc level) range x ≡ []) (plus_one level c) (deep (suc c) (omega arith) (omega (arith, less)))))
     where
       plus_one : (a d : ℕ) → suc a + suc d ≡ suc (suc a + d)
       plus_one a d = omega arith

@@ -54,3 +54,4 @@ pub mod ExamplePicks
 pub mod Picks
 pub mod Lawful
 pub mod Tables
+pub mod Needs

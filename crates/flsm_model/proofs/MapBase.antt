@@ -7,7 +7,7 @@ use Rattle.peb_base.specs.Profiles.{column, Column}
 use Rattle.peb_base.specs.declared.entry.Entry.{Entry}
 use Rattle.flsm_model.specs.Shape.{Record}
 use Rattle.flsm_model.specs.Fits.{fits, fit_from}
-use Rattle.flsm_model.specs.Trees.{Tree, rows_of, installed, tree_from, tree_of, empty_tree}
+use Rattle.flsm_model.specs.Trees.{Tree, rows_of, tree_after, tree_from, tree_of, empty_tree}
 use Rattle.flsm_model.specs.TrueRecord.{DescribedFrom, IsNewest, Live, Flushed, IsTrueRecord}
 use Rattle.peb_base.specs.Members.{IsIn}
 use Rattle.flsm_model.specs.Events.{Event, Standing, base}
@@ -36,7 +36,7 @@ numbers_from : (o : Column) (bs : Batches) (t : Tree) (r : Record) → fit_from 
 numbers_from o bs t [] f d k = k
 numbers_from o bs t (e ∷ es) f d k =
     let p = and_parts (fits o t.shape e) _ f in
-    numbers_from o bs (installed o bs t e) es p.1 d.2 (record {
+    numbers_from o bs (tree_after o bs t e) es p.1 d.2 (record {
       rows = rows_step o bs t e d.0 k.rows;
       known = known_step o t.shape e p.0 k.known;
       one = one_step o bs t e (fresh_rows o t.shape e p.0) (λ u i. k.known.known u.row (subst (IsIn u.row) k.rows (row_in u t.tables i))) k.one;

@@ -10,10 +10,10 @@ use Rattle.flsm_model.specs.declared.job_kind.JobKind.{JobKind}
 use Rattle.flsm_model.specs.declared.job_kind.JobKind.TheVariants.{Flush as FlushJob, Move as MoveJob, Cut as CutJob, Merge as MergeJob}
 use Rattle.flsm_model.specs.declared.job.Job.{Job}
 use Rattle.flsm_model.specs.Shape.{has_number}
-use Rattle.flsm_model.specs.Trees.{Table, Tree, installed, tables_without}
+use Rattle.flsm_model.specs.Trees.{Table, Tree, tree_after, tables_without}
 use Rattle.flsm_model.specs.Events.{Event, Opened, Commit, Synced, Look, Hold, Release, Freeze, Begin, Done, Short, JournalFault, Stop, Session, Standing, Running, last_of}
 use Rattle.flsm_model.specs.Jobs.{floor_of, IsLawful}
-use Rattle.flsm_model.specs.Steps.{flushed, without_job, running_of, shorts_of, step, run}
+use Rattle.flsm_model.specs.Steps.{frozen_left, without_job, running_of, shorts_of, step, run}
 use Rattle.flsm_model.specs.Legal.{last_running, Allowed}
 use Rattle.flsm_model.specs.Outcomes.{IsEditOf, IsOutcome}
 use Rattle.flsm_model.proofs.Members.{IsIn}
@@ -81,17 +81,17 @@ session_only o w f g h = record { one = h.one; levels = h.levels; to_last = h.to
 -- an outcome, and the batches as they are
 outcome_step : (o : Column) (w : Standing) (n : Session) (rs : List Running) (actor : ℕ) (j : Job) (e : Edit) → w.told ≡ true → IsOutcome o w n j e → Sound o w.tree → InFlight o w.tree j
     → IsIn (actor, j) rs → FloorsBelow rs (floor_of n.held (last_number w.batches)) → w.session ≡ Some n → Shows o w
-    → (m : ℕ) → ((installed o w.batches w.tree e).shape.to ≤ m) ⊎ (floor_of n.held (last_number w.batches) ≤ m) → ShowsAt (installed o w.batches w.tree e) w.batches m
+    → (m : ℕ) → ((tree_after o w.batches w.tree e).shape.to ≤ m) ⊎ (floor_of n.held (last_number w.batches) ≤ m) → ShowsAt (tree_after o w.batches w.tree e) w.batches m
 outcome_step o w n rs actor j e tells out s run i fl eq h =
     outcome_shows o w.batches w.tree n j e (floor_of n.held (last_number w.batches)) out.formed.same out.formed.fit (out.holds tells) s run h.one h.levels (fl (actor, j) i)
     (λ m at. h.shown m (elim at [ inl a ↦ inl a | inr b ↦ inr (rw eq b) ]))
 
 -- the last flush after an outcome is stable
 pub to_after : (o : Column) (w : Standing) (n : Session) (j : Job) (e : Edit) → IsEditOf j.kind n j e → InSession w.tree.shape.to (last_number w.batches) n
-    → (installed o w.batches w.tree e).shape.to ≤ n.stable
+    → (tree_after o w.batches w.tree e).shape.to ≤ n.stable
 to_after o w n j e same x = by j.kind e same
   where
-    by : (a : JobKind) (e : Edit) → IsEditOf a n j e → (installed o w.batches w.tree e).shape.to ≤ n.stable
+    by : (a : JobKind) (e : Edit) → IsEditOf a n j e → (tree_after o w.batches w.tree e).shape.to ≤ n.stable
     by FlushJob (Flush row from to log chosen) q = x.frozen to q.0
     by FlushJob (Open session log) q = absurd q
     by FlushJob (Move level fl inputs outputs) q = absurd q
@@ -113,7 +113,7 @@ to_after o w n j e same x = by j.kind e same
     by MergeJob (Move level fl inputs outputs) q = absurd q
     by MergeJob (Cut level keys inputs outputs) q = absurd q
 
-pub still_frozen : (e : Edit) (f : Option ℕ) (k : ℕ) → flushed e f ≡ Some k → f ≡ Some k
+pub still_frozen : (e : Edit) (f : Option ℕ) (k : ℕ) → frozen_left e f ≡ Some k → f ≡ Some k
 still_frozen (Flush row from to log chosen) f k h = absurd (none_some h)
   where
     none_some : None ≡ Some k → ⊥
@@ -134,14 +134,14 @@ same_batches t bs cs m q h x put =
       λ a. r.1 (newest_same (Flushed cs t.shape.to) (Flushed bs t.shape.to) x m (λ y. ((q y).1, (q y).0)) a),
     )
 
-open_shows : (o : Column) (bs : Batches) (t : Tree) (session log m : ℕ) → ShowsAt t bs m → ShowsAt (installed o bs t (Open session log)) bs m
+open_shows : (o : Column) (bs : Batches) (t : Tree) (session log m : ℕ) → ShowsAt t bs m → ShowsAt (tree_after o bs t (Open session log)) bs m
 open_shows o bs t session log m h x put =
     let r = h x put in (
-      λ a. r.0 (newest_same (Live (installed o bs t (Open session log))) (Live t) x m (λ y. ((same y).1, (same y).0)) a),
-      λ a. newest_same (Live t) (Live (installed o bs t (Open session log))) x m same (r.1 a),
+      λ a. r.0 (newest_same (Live (tree_after o bs t (Open session log))) (Live t) x m (λ y. ((same y).1, (same y).0)) a),
+      λ a. newest_same (Live t) (Live (tree_after o bs t (Open session log))) x m same (r.1 a),
     )
   where
-    same : (y : Entry) → Live t y ↔ Live (installed o bs t (Open session log)) y
+    same : (y : Entry) → Live t y ↔ Live (tree_after o bs t (Open session log)) y
     same y = (
       λ l. record { table = l.table; among = in_left l.table (tables_without [] t.tables) [] (in_kept (λ (u : Table). not (has_number u.row.number [])) l.table t.tables l.among refl); inside = l.inside },
       λ l. record { table = l.table; among = elim (after o bs t (Open session log) l.table l.among) [ inl a ↦ a.0 | inr b ↦ absurd b ]; inside = l.inside },
@@ -248,7 +248,7 @@ shows_step o w (Done actor e) hold pl h a = by w.session refl a hold.jobs h.sess
     by (Some n) eq x j y =
         let out = job_in n.running actor (λ k. IsOutcome o w n k e) x.1 in
         let mine : InFlight o w.tree out.0 = j.now.each (actor, out.0) out.1 in
-        let to2 : (installed o w.batches w.tree e).shape.to ≤ n.stable = to_after o w n out.0 e out.2.formed.same y in
+        let to2 : (tree_after o w.batches w.tree e).shape.to ≤ n.stable = to_after o w n out.0 e out.2.formed.same y in
         record {
           one = one_step o w.batches w.tree e (fresh_rows o w.tree.shape e out.2.formed.fit) (known_tables o w.tree hold.sound) h.one;
           levels = levels_step o w.batches w.tree e out.2.formed.fit h.levels;
@@ -261,7 +261,7 @@ shows_step o w (Done actor e) hold pl h a = by w.session refl a hold.jobs h.sess
             faults = y.faults;
           });
           shown = λ m at. outcome_step o w n n.running actor out.0 e hold.tells out.2 hold.sound mine out.1 y.floors eq h m
-              (elim at [ inl b ↦ inl b | inr b ↦ inr (subst (λ s. Readable (last_number w.batches) (option_map {T = Session} {U = Session} (λ q. record q { running = without_job q.running actor; frozen = flushed e q.frozen; edits_made = q.edits_made ++ e ∷ [] }) s) m) eq b) ]);
+              (elim at [ inl b ↦ inl b | inr b ↦ inr (subst (λ s. Readable (last_number w.batches) (option_map {T = Session} {U = Session} (λ q. record q { running = without_job q.running actor; frozen = frozen_left e q.frozen; edits_made = q.edits_made ++ e ∷ [] }) s) m) eq b) ]);
         }
 shows_step o w (Short actor cause bytes) hold pl h a =
     let h2 = session_only o w (λ s. record s { running = without_job s.running actor; jobs_cut_short = s.jobs_cut_short ++ shorts_of bytes (running_of actor s) })
@@ -289,13 +289,13 @@ shows_step o w (Stop k (Some e)) hold pl h a = by w.session refl a hold.jobs h.s
     by (Some n) eq x j y =
         let out = job_in (last_running n) x.2.0 (λ q. IsOutcome o w n q e) x.2.1 in
         let mine : InFlight o w.tree out.0 = (last_jobs o w.tree n j).each (x.2.0, out.0) out.1 in
-        let to2 : (installed o w.batches w.tree e).shape.to ≤ n.stable = to_after o w n out.0 e out.2.formed.same y in
-        let low : (installed o w.batches w.tree e).shape.to ≤ k = omega (arith, to2, x.1) in
+        let to2 : (tree_after o w.batches w.tree e).shape.to ≤ n.stable = to_after o w n out.0 e out.2.formed.same y in
+        let low : (tree_after o w.batches w.tree e).shape.to ≤ k = omega (arith, to2, x.1) in
         record {
           one = one_step o w.batches w.tree e (fresh_rows o w.tree.shape e out.2.formed.fit) (known_tables o w.tree hold.sound) h.one;
           levels = levels_step o w.batches w.tree e out.2.formed.fit h.levels;
-          to_last = to_kept w.batches k (installed o w.batches w.tree e).shape.to pl.ordered x.0 low;
+          to_last = to_kept w.batches k (tree_after o w.batches w.tree e).shape.to pl.ordered x.0 low;
           session = tt;
-          shown = λ m at. same_batches (installed o w.batches w.tree e) w.batches (batches_to k w.batches) m (dropped_same w.batches k (installed o w.batches w.tree e).shape.to pl.ordered x.0 low)
+          shown = λ m at. same_batches (tree_after o w.batches w.tree e) w.batches (batches_to k w.batches) m (dropped_same w.batches k (tree_after o w.batches w.tree e).shape.to pl.ordered x.0 low)
               (outcome_step o w n (last_running n) x.2.0 out.0 e hold.tells out.2 hold.sound mine out.1 (last_floors n.faulted n.running _ y.floors y.faults) eq h m (inl (elim at [ inl b ↦ b | inr b ↦ absurd b ])));
         }

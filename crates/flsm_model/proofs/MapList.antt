@@ -12,7 +12,7 @@ use Rattle.peb_base.specs.declared.entry.Entry.{Entry}
 use Rattle.flsm_model.specs.declared.edit.Edit.{Edit}
 use Rattle.flsm_model.specs.declared.edit.Edit.TheVariants.{Open, Flush, Move, Cut, Merge}
 use Rattle.flsm_model.specs.Shape.{Record}
-use Rattle.flsm_model.specs.Trees.{Table, Tree, contents, installed, tree_from, empty_tree}
+use Rattle.flsm_model.specs.Trees.{Table, Tree, contents, tree_after, tree_from, empty_tree}
 use Rattle.flsm_model.specs.Events.{Session, Standing, base}
 use Rattle.flsm_model.specs.Steps.{run}
 use Rattle.flsm_model.specs.TrueRecord.{IsNewest, Live, Flushed, SamePuts}
@@ -105,7 +105,7 @@ joined bs es m ordered sub same = maps_same (shown es m) (map_at bs m) (rise_sor
 pub record Sourced (bs : Batches) (t : Tree) : Type 0 where
   pub source : (u : Table) (x : Entry) → IsIn u t.tables → IsIn x u.entries → IsIn x (entries_of bs)
 
-sourced_step : (o : Column) (bs : Batches) (t : Tree) (e : Edit) → Sourced bs t → Sourced bs (installed o bs t e)
+sourced_step : (o : Column) (bs : Batches) (t : Tree) (e : Edit) → Sourced bs t → Sourced bs (tree_after o bs t e)
 sourced_step o bs t (Open session log) h = record { source = λ u x i p. elim (after o bs t (Open session log) u i) [ inl a ↦ h.source u x a.0 p | inr b ↦ absurd b ] }
 sourced_step o bs t (Flush row from to log chosen) h = record {
   source = λ u x i p. elim (after o bs t (Flush row from to log chosen) u i) [
@@ -138,7 +138,7 @@ sourced_step o bs t (Merge floor whole inputs outputs) h = record {
 
 pub sourced_from : (o : Column) (bs : Batches) (t : Tree) (r : Record) → Sourced bs t → Sourced bs (tree_from o bs t r)
 sourced_from o bs t [] h = h
-sourced_from o bs t (e ∷ es) h = sourced_from o bs (installed o bs t e) es (sourced_step o bs t e h)
+sourced_from o bs t (e ∷ es) h = sourced_from o bs (tree_after o bs t e) es (sourced_step o bs t e h)
 
 -- ---- the law
 

@@ -7,7 +7,7 @@ use Rattle.peb_base.specs.Batches.{Batches, entries_of}
 use Rattle.peb_base.specs.Entries.{in_order, entries_between}
 use Rattle.peb_base.specs.Keys.{Bytes}
 use Rattle.flsm_model.specs.Compaction.{pieces}
-use Rattle.flsm_model.specs.Trees.{Describes, Table, Tree, content_of, contents, written_by, installed, tables_without}
+use Rattle.flsm_model.specs.Trees.{Describes, Table, Tree, content_of, contents, written_by, tree_after, tables_without}
 use Rattle.peb_base.specs.declared.entry.Entry.{Entry}
 use Rattle.peb_base.specs.declared.table_row.TableRow.{TableRow}
 use Rattle.peb_base.specs.Profiles.{Column}
@@ -28,13 +28,13 @@ use Rattle.flsm_model.proofs.Lists.{in_filter, in_left, in_right, in_kept}
 
 pub cut_live : (o : Column) (bs : Batches) (t : Tree) (level : ℕ) (keys : List Bytes) (ns : List ℕ) (outputs : List TableRow)
     → AllZip (Describes o) outputs (contents o bs t (Cut level keys ns outputs)) → OneByNumber t.tables
-    → (x : Entry) → Live t x ↔ Live (installed o bs t (Cut level keys ns outputs)) x
+    → (x : Entry) → Live t x ↔ Live (tree_after o bs t (Cut level keys ns outputs)) x
 cut_live o bs t level keys ns outputs d one x = (to, from)
   where
     e : Edit
     e = Cut level keys ns outputs
 
-    to : Live t x → Live (installed o bs t e) x
+    to : Live t x → Live (tree_after o bs t e) x
     to l = elim (cases_Bool (has_number l.table.row.number ns)) [
       | inl y ↦
           let n : ℕ = l.table.row.number in
@@ -45,7 +45,7 @@ cut_live o bs t level keys ns outputs d one x = (to, from)
           record { table = l.table; among = in_left l.table (tables_without ns t.tables) (written_by o bs t e) (in_kept (λ (u : Table). not (has_number u.row.number ns)) l.table t.tables l.among (ap not z)); inside = l.inside }
     ]
 
-    from : Live (installed o bs t e) x → Live t x
+    from : Live (tree_after o bs t e) x → Live t x
     from l = elim (after o bs t e l.table l.among) [
       | inl a ↦ record { table = l.table; among = a.0; inside = l.inside }
       | inr b ↦ let u = from_cut o bs t level keys ns outputs l.table x b l.inside in record { table = u.0; among = u.1; inside = u.3 }
@@ -70,7 +70,7 @@ pub record Between (bs : Batches) (from to : ℕ) (x : Entry) : Type 0 where
   pub upto : x.number ≤ to
 
 flush_live : (o : Column) (bs : Batches) (t : Tree) (row : TableRow) (from to log : ℕ) (chosen : List Chosen) → AllZip (Describes o) (row ∷ []) (contents o bs t (Flush row from to log chosen))
-    → (x : Entry) → Live (installed o bs t (Flush row from to log chosen)) x ↔ (Live t x ⊎ Between bs from to x)
+    → (x : Entry) → Live (tree_after o bs t (Flush row from to log chosen)) x ↔ (Live t x ⊎ Between bs from to x)
 flush_live o bs t row from to log chosen d x = (there, back)
   where
     e : Edit
@@ -79,7 +79,7 @@ flush_live o bs t row from to log chosen d x = (there, back)
     es : List Entry
     es = in_order (entries_between from to (entries_of bs))
 
-    there : Live (installed o bs t e) x → Live t x ⊎ Between bs from to x
+    there : Live (tree_after o bs t e) x → Live t x ⊎ Between bs from to x
     there l = elim (after o bs t e l.table l.among) [
       | inl a ↦ inl (record { table = l.table; among = a.0; inside = l.inside })
       | inr b ↦
@@ -90,7 +90,7 @@ flush_live o bs t row from to log chosen d x = (there, back)
           inr (record { entry = i.0; above = p.0; upto = p.1 })
     ]
 
-    back : Live t x ⊎ Between bs from to x → Live (installed o bs t e) x
+    back : Live t x ⊎ Between bs from to x → Live (tree_after o bs t e) x
     back p = elim p [
       | inl l ↦ record { table = l.table; among = in_left l.table (tables_without [] t.tables) (written_by o bs t e) (in_kept (λ (u : Table). not (has_number u.row.number [])) l.table t.tables l.among refl); inside = l.inside }
       | inr b ↦
@@ -110,7 +110,7 @@ flushed_parts bs from to l x = (
 pub flush_shows : (o : Column) (bs : Batches) (t : Tree) (row : TableRow) (from to log : ℕ) (chosen : List Chosen) → AllZip (Describes o) (row ∷ []) (contents o bs t (Flush row from to log chosen))
     → fits o t.shape (Flush row from to log chosen) ≡ true → AllFlushed t.tables t.shape.to → (m : ℕ) (x : Entry)
     → IsNewest (Live t) x m ↔ IsNewest (Flushed bs t.shape.to) x m
-    → IsNewest (Live (installed o bs t (Flush row from to log chosen))) x m ↔ IsNewest (Flushed bs to) x m
+    → IsNewest (Live (tree_after o bs t (Flush row from to log chosen))) x m ↔ IsNewest (Flushed bs to) x m
 flush_shows o bs t row from to log chosen d f fl m x same =
     let k = flush_facts o t.shape row from to log chosen f in
     let a = flush_live o bs t row from to log chosen d in
@@ -121,8 +121,8 @@ flush_shows o bs t row from to log chosen d f fl m x same =
     let same2 : IsNewest (Live t) x m ↔ IsNewest (Flushed bs from) x m = subst (λ n. IsNewest (Live t) x m ↔ IsNewest (Flushed bs n) x m) (sym k.follows) same in (
       λ n. newest_same (λ y. Flushed bs from y ⊎ Between bs from to y) (Flushed bs to) x m (λ y. ((b y).1, (b y).0))
           (union_shows (Live t) (Flushed bs from) (Between bs from to) from m low high x same2.0
-          (newest_same (Live (installed o bs t (Flush row from to log chosen))) (λ y. Live t y ⊎ Between bs from to y) x m a n)),
-      λ n. newest_same (λ y. Live t y ⊎ Between bs from to y) (Live (installed o bs t (Flush row from to log chosen))) x m (λ y. ((a y).1, (a y).0))
+          (newest_same (Live (tree_after o bs t (Flush row from to log chosen))) (λ y. Live t y ⊎ Between bs from to y) x m a n)),
+      λ n. newest_same (λ y. Live t y ⊎ Between bs from to y) (Live (tree_after o bs t (Flush row from to log chosen))) x m (λ y. ((a y).1, (a y).0))
           (union_shows (Flushed bs from) (Live t) (Between bs from to) from m low_live high x same2.1
           (newest_same (Flushed bs to) (λ y. Flushed bs from y ⊎ Between bs from to y) x m b n)),
     )

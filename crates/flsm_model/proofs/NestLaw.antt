@@ -10,7 +10,7 @@ use Rattle.peb_base.specs.declared.table_row.TableRow.{TableRow}
 use Rattle.flsm_model.specs.declared.edit.Edit.{Edit}
 use Rattle.flsm_model.specs.declared.edit.Edit.TheVariants.{Open, Flush, Move, Cut, Merge}
 use Rattle.flsm_model.specs.Ranges.{keys_ascend, has_key, with_key, with_keys}
-use Rattle.flsm_model.specs.Shape.{Record, Shape, empty_shape, guards_at, grown, shape_from, shape_of, has_number, rows_without}
+use Rattle.flsm_model.specs.Shape.{Record, Shape, empty_shape, guards_at, shape_after, shape_from, shape_of, has_number, rows_without}
 use Rattle.flsm_model.specs.Fits.{fits, fit_from, is_guard}
 use Rattle.peb_base.specs.Members.{IsIn}
 use Rattle.flsm_model.specs.Sound.{RecordsNested}
@@ -72,10 +72,10 @@ rise_more (k ∷ ks) gs h = rise_one k (with_keys ks gs) (rise_more ks gs h)
 
 -- ---- one edit more
 
-rise_step : (o : Column) (s : Shape) (e : Edit) (l : ℕ) → InGuards o s → fits o s e ≡ true → Rise (guards_at s l) → Rise (guards_at (grown s e) l)
+rise_step : (o : Column) (s : Shape) (e : Edit) (l : ℕ) → InGuards o s → fits o s e ≡ true → Rise (guards_at s l) → Rise (guards_at (shape_after s e) l)
 rise_step o s e l h f rise = by (guards_turn o s e l h f)
   where
-    by : GuardsTurn s e l → Rise (guards_at (grown s e) l)
+    by : GuardsTurn s e l → Rise (guards_at (shape_after s e) l)
     by (Same q) = subst Rise (sym q) rise
     by (More keys inputs outputs is q) = subst Rise (sym q) (rise_more keys (guards_at s l) rise)
 
@@ -84,10 +84,10 @@ same_key_any k ks h = let x = any_in (key_eq k) ks h in subst (λ y. IsIn y ks) 
 
 nested_step : (o : Column) (s : Shape) (e : Edit) → InGuards o s → fits o s e ≡ true
     → ((l : ℕ) (k : Bytes) → 1 ≤ l → l < o.last_level → is_guard s l k ≡ true → is_guard s (suc l) k ≡ true)
-    → (l : ℕ) (k : Bytes) → 1 ≤ l → l < o.last_level → is_guard (grown s e) l k ≡ true → is_guard (grown s e) (suc l) k ≡ true
+    → (l : ℕ) (k : Bytes) → 1 ≤ l → l < o.last_level → is_guard (shape_after s e) l k ≡ true → is_guard (shape_after s e) (suc l) k ≡ true
 nested_step o s e h f nested l k from below guard = by (guards_turn o s e l h f)
   where
-    older : is_guard s l k ≡ true → is_guard (grown s e) (suc l) k ≡ true
+    older : is_guard s l k ≡ true → is_guard (shape_after s e) (suc l) k ≡ true
     older old = guard_stays o s e (suc l) k h f (nested l k from below old)
 
     not_last : (b c : Bool) → b ≡ false → (b || c) ≡ true → c ≡ true
@@ -101,7 +101,7 @@ nested_step o s e h f nested l k from below guard = by (guards_turn o s e l h f)
         last true is = absurd (omega (arith, below, eqb-true l o.last_level is))
         last false is = is
 
-    by : GuardsTurn s e l → is_guard (grown s e) (suc l) k ≡ true
+    by : GuardsTurn s e l → is_guard (shape_after s e) (suc l) k ≡ true
     by (Same q) = older (subst (λ (gs : List Bytes). has_key k gs ≡ true) q guard)
     by (More keys inputs outputs is q) = elim (withs_has k keys (guards_at s l) (subst (λ (gs : List Bytes). has_key k gs ≡ true) q guard)) [
       | inl new ↦
@@ -114,7 +114,7 @@ nested_step o s e h f nested l k from below guard = by (guards_turn o s e l h f)
 at_level : (n : ℕ) (rows : List TableRow) (r : TableRow) → list_all (λ (x : TableRow). x.level == n) rows ≡ true → IsIn r rows → r.level ≡ n
 at_level n rows r h among = eqb-true r.level n (all_in (λ (x : TableRow). x.level == n) r rows h among)
 
-deep_step : (o : Column) (s : Shape) (e : Edit) → fits o s e ≡ true → ((r : TableRow) → IsIn r s.live → r.level ≤ o.last_level) → (r : TableRow) → IsIn r (grown s e).live → r.level ≤ o.last_level
+deep_step : (o : Column) (s : Shape) (e : Edit) → fits o s e ≡ true → ((r : TableRow) → IsIn r s.live → r.level ≤ o.last_level) → (r : TableRow) → IsIn r (shape_after s e).live → r.level ≤ o.last_level
 deep_step o s (Open session log) f h r among = h r among
 deep_step o s (Flush row from to log chosen) f h r among = elim (in_append r (rows_without [] s.live) (row ∷ []) among) [
   | inl old ↦ h r (in_filter (λ (x : TableRow). not (has_number x.number [])) r s.live old).0
@@ -142,7 +142,7 @@ nest_from : (o : Column) (s : Shape) (r : Record) → fit_from o s r ≡ true �
 nest_from o s [] f g h = h
 nest_from o s (e ∷ es) f g h =
     let p = and_parts (fits o s e) _ f in
-    nest_from o (grown s e) es p.1 (in_guards_step o s e g p.0) (record {
+    nest_from o (shape_after s e) es p.1 (in_guards_step o s e g p.0) (record {
       rise = λ l. rise_step o s e l g p.0 (h.rise l);
       nested = nested_step o s e g p.0 h.nested;
       deep = deep_step o s e p.0 h.deep;

@@ -161,7 +161,7 @@ module _ (o : Column) (w : Standing) (n : Session) (j : Job) (fm : Formed o w) (
       (le-leb j.level o.last_level f.upto))
       f.ascend)
       f.some)
-      (subst (λ r. list_all (λ x. is_candidate o w.tree.shape j.level x && in_range r.0 r.1 x && not (is_guard w.tree.shape j.level x) && (j.level == o.last_level || is_guard w.tree.shape (suc j.level) x)) j.keys ≡ true) (sym same) f.keys))
+      (subst (λ r. list_all (λ x. is_candidate w.tree.shape.chosen j.level x && in_range r.0 r.1 x && not (is_guard w.tree.shape j.level x) && (j.level == o.last_level || is_guard w.tree.shape (suc j.level) x)) j.keys ≡ true) (sym same) f.keys))
       uj.ascend)
       uj.live)
       (subst (λ r. list_all (is_straddled j.level r j.keys) (rows_numbered j.inputs w.tree.shape.live) ≡ true) (sym same) str))

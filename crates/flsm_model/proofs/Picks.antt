@@ -1,10 +1,10 @@
 -- The job that is picked may begin; where none is left, there is room.
-use Rattle.std.proofs.Common.{◌≡◌, ℕ, zero, suc, ◌+◌, ◌-◌, ◌<◌, ◌≤◌, ◌≢◌, Bool, true, false, cond, ◌||◌, not, List, [], ◌∷◌, ◌++◌, map, ◌⊎◌, inl, inr, refl, sym, ◌∙◌, ap, subst, arith}
+use Rattle.std.proofs.Common.{◌≡◌, ℕ, zero, suc, ◌+◌, ◌-◌, ◌<◌, ◌≤◌, ◌≢◌, Bool, true, false, cond, ◌||◌, not, List, [], ◌∷◌, ◌++◌, map, ◌⊎◌, inl, inr, refl, sym, ◌∙◌, ap, subst, arith, ◌&&◌}
 use Rattle.std.specs.Prelude.{◌==◌, nat_le, filter, find, if◌then◌else◌, Option, Some, None, ⊤}
-use Rattle.std.specs.List.{list_all}
+use Rattle.std.specs.List.{list_all, list_any}
 use Rattle.std.proofs.lemmas.Bool.{and_parts, and_from, or_cases, or_left, or_right, cases_Bool, eqb-true, eq-eqb, eqb-false, lt-ltb, leb-true, leb-false, true≢false, false≢true, not-true, cases_lt, ne_eqb}
 use Rattle.peb_base.specs.Keys.{Bytes, key_lt, key_le, key_eq}
-use Rattle.peb_base.specs.KeyLaws.{le_lt, le_trans, le_refl, same_key, key_self}
+use Rattle.peb_base.specs.KeyLaws.{lt_trans, lt_asym, le_lt, le_trans, le_refl, same_key, key_self}
 use Rattle.peb_base.specs.Members.{IsIn}
 use Rattle.peb_base.specs.Profiles.{column, Column}
 use Rattle.peb_base.specs.declared.table_row.TableRow.{TableRow}
@@ -14,11 +14,12 @@ use Rattle.flsm_model.specs.Ranges.{is_below, in_range, has_key, keys_ascend, wi
 use Rattle.flsm_model.specs.Shape.{Shape, has_number, is_numbered, rows_numbered, rows_without}
 use Rattle.flsm_model.specs.Fits.{is_chosen, is_live, is_some_list, numbers_ascend, numbers_differ}
 use Rattle.flsm_model.specs.Events.{Running, base}
-use Rattle.flsm_model.specs.Claims.{is_free}
+use Rattle.flsm_model.specs.Claims.{claims_of, claims_conflict, is_free, is_claim_free, FreeByClaims}
+use Rattle.flsm_model.specs.declared.claim.Claim.{Claim}
 use Rattle.flsm_model.specs.Legal.{AlwaysFormed}
 use Rattle.flsm_model.specs.Steps.{run}
 use Rattle.flsm_model.specs.Picking.{ranges_after, over_at, with_number, numbers_of, chosen_keys, move_job, merge_job, job_at, target_jobs, flush_jobs, wanted, beginning}
-use Rattle.flsm_model.specs.Picked.{IdleHasRoom}
+use Rattle.flsm_model.specs.Picked.{IdleHasRoom, ChosenAscend, AscendingAreEqual}
 use Rattle.flsm_model.proofs.Guards.{AscendFrom}
 use Rattle.flsm_model.proofs.GuardKeys.{has_with, withs_has}
 use Rattle.flsm_model.proofs.NestLaw.{rise_more, rise_ascend}
@@ -353,3 +354,101 @@ none_pass test s h c i = elim (cases_Bool (test c.key)) [
   | inl t ↦ absurd (subst (IsIn c.key) h (pass_chosen test s c i t))
   | inr e ↦ e
 ]
+
+-- ---- chosen keys in order
+
+chosen_has : (test : Bytes → Bool) (s : Shape) (key : Bytes) → has_key key (chosen_keys test s) ≡ (is_chosen s.chosen key && test key)
+chosen_has test s key = elim (cases_Bool (has_key key (chosen_keys test s))) [
+  | inl h ↦ let i = key_in key (chosen_keys test s) h in h ∙ sym (and_from _ _ (chosen_is test s key i) (chosen_pass test s key i))
+  | inr n ↦ n ∙ sym (none (is_chosen s.chosen key) (test key) refl refl n)
+]
+  where
+    none : (a b : Bool) → is_chosen s.chosen key ≡ a → test key ≡ b → has_key key (chosen_keys test s) ≡ false → (a && b) ≡ false
+    none false b x y n = refl
+    none true false x y n = refl
+    none true true x y n =
+        let c = any_in (λ (c : Chosen). key_eq key c.key) s.chosen x in
+        let same : key ≡ c.0.key = same_key key c.0.key c.2 in
+        absurd (true≢false (sym (in_key key (chosen_keys test s) (subst (λ z. IsIn z (chosen_keys test s)) (sym same) (pass_chosen test s c.0 c.1 (subst (λ z. test z ≡ true) same y)))) ∙ n))
+
+pub chosen_in_order : ChosenAscend
+chosen_in_order test s = record { ascend = chosen_ascend test s; keys = chosen_has test s }
+
+-- keys behind the first one lie above it
+above_first : (k : Bytes) (ks : List Bytes) → keys_ascend (k ∷ ks) ≡ true → (x : Bytes) → IsIn x ks → key_lt k x ≡ true
+above_first k [] h x i = absurd i
+above_first k (q ∷ ks) h x i =
+    let p = and_parts (key_lt k q) (keys_ascend (q ∷ ks)) h in
+    elim i [ inl s ↦ subst (λ z. key_lt k z ≡ true) (sym s) p.0 | inr m ↦ lt_trans k q x p.0 (above_first q ks p.1 x m) ]
+
+ascend_tail : (k : Bytes) (ks : List Bytes) → keys_ascend (k ∷ ks) ≡ true → keys_ascend ks ≡ true
+ascend_tail k [] h = refl
+ascend_tail k (q ∷ ks) h = (and_parts (key_lt k q) (keys_ascend (q ∷ ks)) h).1
+
+-- the first key isn't among the others
+first_apart : (k : Bytes) (ks : List Bytes) → keys_ascend (k ∷ ks) ≡ true → has_key k ks ≡ false
+first_apart k ks h = elim (cases_Bool (has_key k ks)) [
+  | inl there ↦ let over = above_first k ks h k (key_in k ks there) in absurd (true≢false (sym over ∙ lt_asym k k over))
+  | inr absent ↦ absent
+]
+
+pub ascending_are_equal : AscendingAreEqual
+ascending_are_equal [] [] a b h = refl
+ascending_are_equal [] (l ∷ ls) a b h = absurd (false≢true (h l ∙ or_left (key_eq l l) _ (key_self l)))
+ascending_are_equal (k ∷ ks) [] a b h = absurd (false≢true (sym (h k) ∙ or_left (key_eq k k) _ (key_self k)))
+ascending_are_equal (k ∷ ks) (l ∷ ls) a b h =
+    let first : k ≡ l = heads in
+    (λ i. first i ∷ ascending_are_equal ks ls (ascend_tail k ks a) (ascend_tail l ls b) (tails first) i)
+  where
+    heads : k ≡ l
+    heads = elim (or_cases (key_eq k l) (has_key k ls) (sym (h k) ∙ or_left (key_eq k k) (has_key k ks) (key_self k))) [
+      | inl s ↦ same_key k l s
+      | inr m ↦
+          let over : key_lt l k ≡ true = above_first l ls b k (key_in k ls m) in
+          elim (or_cases (key_eq l k) (has_key l ks) (h l ∙ or_left (key_eq l l) (has_key l ls) (key_self l))) [
+            | inl s ↦ sym (same_key l k s)
+            | inr q ↦ absurd (true≢false (sym (above_first k ks a l (key_in l ks q)) ∙ lt_asym l k over))
+          ]
+    ]
+
+    tails : k ≡ l → (x : Bytes) → has_key x ks ≡ has_key x ls
+    tails first x = by (key_eq x k) (key_eq x l) refl (ap (key_eq x) first) (h x)
+      where
+        by : (c d : Bool) → key_eq x k ≡ c → c ≡ d → (c || has_key x ks) ≡ (d || has_key x ls) → has_key x ks ≡ has_key x ls
+        by true true e s q =
+            let same : x ≡ k = same_key x k e in
+            subst (λ z. has_key z ks ≡ false) (sym same) (first_apart k ks a) ∙ sym (subst (λ z. has_key z ls ≡ false) (sym (same ∙ first)) (first_apart l ls b))
+        by true false e s q = absurd (true≢false s)
+        by false true e s q = absurd (true≢false (sym s))
+        by false false e s q = q
+
+-- ---- claims
+
+no_any : {X : Type 0} (p : X → Bool) (xs : List X) → not (list_any p xs) ≡ list_all (λ x. not (p x)) xs
+no_any p [] = refl
+no_any p (x ∷ xs) = by (p x) (no_any p xs)
+  where
+    by : (b : Bool) → not (list_any p xs) ≡ list_all (λ x. not (p x)) xs → not (b || list_any p xs) ≡ (not b && list_all (λ x. not (p x)) xs)
+    by true ih = refl
+    by false ih = ih
+
+both_all : {X : Type 0} (p q : X → Bool) (xs : List X) → list_all (λ x. p x && q x) xs ≡ (list_all p xs && list_all q xs)
+both_all p q [] = refl
+both_all p q (x ∷ xs) = by (p x) (q x) (list_all p xs) (list_all q xs) (both_all p q xs)
+  where
+    by : (a b c d : Bool) → list_all (λ x. p x && q x) xs ≡ (c && d) → (a && b && list_all (λ x. p x && q x) xs) ≡ (a && c && (b && d))
+    by true true c d ih = ih
+    by true false true d ih = refl
+    by true false false d ih = refl
+    by false b c d ih = refl
+
+pub free_by_claims : FreeByClaims
+free_by_claims j [] = sym (all_true (claims_of j))
+  where
+    all_true : (cs : List Claim) → list_all (λ c. is_claim_free c []) cs ≡ true
+    all_true [] = refl
+    all_true (c ∷ cs) = all_true cs
+free_by_claims j (r ∷ rs) =
+    ap (λ b. b && is_free j rs) (no_any (λ a. list_any (claims_conflict a) (claims_of r.1)) (claims_of j))
+    ∙ ap (λ b. list_all (λ a. not (list_any (claims_conflict a) (claims_of r.1))) (claims_of j) && b) (free_by_claims j rs)
+    ∙ sym (both_all (λ a. not (list_any (claims_conflict a) (claims_of r.1))) (λ a. is_claim_free a rs) (claims_of j))

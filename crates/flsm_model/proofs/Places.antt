@@ -9,9 +9,9 @@ use Rattle.peb_base.specs.declared.op.Op.{Op}
 use Rattle.flsm_model.specs.declared.edit.Edit.{Edit}
 use Rattle.flsm_model.specs.declared.edit.Edit.TheVariants.{Open, Flush, Move, Cut, Merge}
 use Rattle.flsm_model.specs.declared.job.Job.{Job}
-use Rattle.flsm_model.specs.Shape.{Record, Shape, grown, shape_from}
+use Rattle.flsm_model.specs.Shape.{Record, Shape, shape_after, shape_from}
 use Rattle.flsm_model.specs.Fits.{fits}
-use Rattle.flsm_model.specs.Trees.{Tree, installed, tree_from, empty_tree}
+use Rattle.flsm_model.specs.Trees.{Tree, tree_after, tree_from, empty_tree}
 use Rattle.flsm_model.specs.Writes.{one_if, copies_in}
 use Rattle.flsm_model.specs.Events.{Event, Opened, Commit, Synced, Look, Hold, Release, Freeze, Begin, Done, Short, JournalFault, Stop, Session, Standing, base}
 use Rattle.flsm_model.specs.Outcomes.{IsOutcome, IsEditOf}
@@ -92,7 +92,7 @@ pub record Placed (o : Column) (w : Standing) : Type 0 where
   pub within : Within (last_number w.batches) w.tree.shape.session w.session
   pub once : (q : ℕ) → copies_in q w.tree.tables + unflushed q w.tree.shape.to ≤ 1
 
-pub same_session : (s : Shape) (e : Edit) → ((a b : ℕ) → e ≢ Open a b) → (grown s e).session ≡ s.session
+pub same_session : (s : Shape) (e : Edit) → ((a b : ℕ) → e ≢ Open a b) → (shape_after s e).session ≡ s.session
 same_session s (Open a b) h = absurd (h a b refl)
 same_session s (Flush row from to log chosen) h = refl
 same_session s (Move level floor inputs outputs) h = refl
@@ -108,7 +108,7 @@ same_placed : (o : Column) (w : Standing) (f : Session → Session) → ((n : Se
 same_placed o w f g h = record { ordered = h.ordered; within = within_map _ _ w.session f g h.within; once = h.once }
 
 once_more : (o : Column) (bs : Batches) (t : Tree) (e : Edit) → are_in_order bs ≡ true → fits o t.shape e ≡ true
-    → ((q : ℕ) → copies_in q t.tables + unflushed q t.shape.to ≤ 1) → (q : ℕ) → copies_in q (installed o bs t e).tables + unflushed q (installed o bs t e).shape.to ≤ 1
+    → ((q : ℕ) → copies_in q t.tables + unflushed q t.shape.to ≤ 1) → (q : ℕ) → copies_in q (tree_after o bs t e).tables + unflushed q (tree_after o bs t e).shape.to ≤ 1
 once_more o bs t e b f h q = omega (arith, place_step o bs t e q b f, h q)
 
 pub not_open : (o : Column) (w : Standing) (n : Session) (j : Job) (e : Edit) → IsOutcome o w n j e → (a b : ℕ) → e ≢ Open a b
@@ -180,7 +180,7 @@ placed_run o w (e ∷ es) h l = placed_run o (step o w e) es (placed_step o w e 
 
 pub shape_same : (o : Column) (bs : Batches) (t : Tree) (r : Record) → (tree_from o bs t r).shape ≡ shape_from t.shape r
 shape_same o bs t [] = refl
-shape_same o bs t (e ∷ es) = shape_same o bs (installed o bs t e) es
+shape_same o bs t (e ∷ es) = shape_same o bs (tree_after o bs t e) es
 
 pub placed_base : (o : Column) (bs : Batches) (r : Record) → IsTrueRecord o r bs → Placed o (base true o bs r)
 placed_base o bs r h =

@@ -11,9 +11,9 @@ use Rattle.flsm_model.specs.declared.edit.Edit.TheVariants.{Open, Flush, Move, C
 use Rattle.flsm_model.specs.declared.job_kind.JobKind.{JobKind}
 use Rattle.flsm_model.specs.declared.job_kind.JobKind.TheVariants.{Flush as FlushJob, Move as MoveJob, Cut as CutJob, Merge as MergeJob}
 use Rattle.flsm_model.specs.declared.job.Job.{Job}
-use Rattle.flsm_model.specs.Shape.{Shape, grown, has_number, outputs_of}
+use Rattle.flsm_model.specs.Shape.{Shape, shape_after, has_number, outputs_of}
 use Rattle.flsm_model.specs.Events.{Event, Opened, Commit, Synced, Look, Hold, Release, Freeze, Begin, Done, Short, JournalFault, Stop, Session, Standing, Running, last_of}
-use Rattle.flsm_model.specs.Steps.{flushed, without_job, step}
+use Rattle.flsm_model.specs.Steps.{frozen_left, without_job, step}
 use Rattle.flsm_model.specs.Jobs.{numbers_needed, IsLawful}
 use Rattle.flsm_model.specs.Outcomes.{IsEditOf, IsOutcome}
 use Rattle.flsm_model.specs.Legal.{Allowed, last_running}
@@ -71,8 +71,8 @@ FaultBlocks top (Some rs) = Blocks top rs
 -- ---- what an outcome changes of the numbers
 
 pub data Turn (s : Shape) (n : Session) (e : Edit) : Type 0 where
-  Stays : ((grown s e).to ≡ s.to) → ((grown s e).log ≡ s.log) → ((f : Option ℕ) → flushed e f ≡ f) → Turn s n e
-  Flushes : (k : ℕ) → n.frozen ≡ Some k → ((grown s e).to ≡ k) → ((grown s e).log ≡ n.log + n.freezes) → ((f : Option ℕ) → flushed e f ≡ None) → Turn s n e
+  Stays : ((shape_after s e).to ≡ s.to) → ((shape_after s e).log ≡ s.log) → ((f : Option ℕ) → frozen_left e f ≡ f) → Turn s n e
+  Flushes : (k : ℕ) → n.frozen ≡ Some k → ((shape_after s e).to ≡ k) → ((shape_after s e).log ≡ n.log + n.freezes) → ((f : Option ℕ) → frozen_left e f ≡ None) → Turn s n e
 
 pub turn : (s : Shape) (n : Session) (j : Job) (e : Edit) → IsEditOf j.kind n j e → Turn s n e
 turn s n j e same = by j.kind e same
@@ -99,7 +99,7 @@ turn s n j e same = by j.kind e same
     by MergeJob (Move level fl inputs outputs) q = absurd q
     by MergeJob (Cut level keys inputs outputs) q = absurd q
 
-pub used_after : (s : Shape) (e : Edit) → ((a b : ℕ) → e ≢ Open a b) → (grown s e).used ≡ s.used ++ map (λ (r : TableRow). r.number) (outputs_of e)
+pub used_after : (s : Shape) (e : Edit) → ((a b : ℕ) → e ≢ Open a b) → (shape_after s e).used ≡ s.used ++ map (λ (r : TableRow). r.number) (outputs_of e)
 used_after s (Open a b) h = absurd (h a b refl)
 used_after s (Flush row from to log chosen) h = refl
 used_after s (Move level floor inputs outputs) h = refl
@@ -332,11 +332,11 @@ numbers_step o w (Begin actor job) h a =
       marks = x.marks;
     }) h
 numbers_step o w (Done actor e) h a =
-    numbers_map w.tree.shape (last_of w) (grown w.tree.shape e) (last_of (step o w (Done actor e))) w.session _ (λ n q x.
+    numbers_map w.tree.shape (last_of w) (shape_after w.tree.shape e) (last_of (step o w (Done actor e))) w.session _ (λ n q x.
     let y = within o w (Done actor e) n q a in
     let out = job_in n.running actor (λ k. IsOutcome o w n k e) y.1 in
-    let session : (grown w.tree.shape e).session ≡ w.tree.shape.session = same_session w.tree.shape e (not_open o w n out.0 e out.2) in
-    let used : (m : ℕ) → has_number m (grown w.tree.shape e).used ≡ true → m < top_of w.tree.shape.session n =
+    let session : (shape_after w.tree.shape e).session ≡ w.tree.shape.session = same_session w.tree.shape e (not_open o w n out.0 e out.2) in
+    let used : (m : ℕ) → has_number m (shape_after w.tree.shape e).used ≡ true → m < top_of w.tree.shape.session n =
     λ m i. elim (has_parts m w.tree.shape.used _ (subst (λ ns. has_number m ns ≡ true) (used_after w.tree.shape e (not_open o w n out.0 e out.2)) i)) [
       | inl b ↦ x.used m b
       | inr b ↦ omega (arith, (block_of out.0 (outputs_of e) m out.2.formed.numbers b).1, blocks_below _ n.running (actor, out.0) x.blocks out.1)
@@ -350,8 +350,8 @@ numbers_step o w (Done actor e) h a =
       marks = done n x.marks session (turn w.tree.shape n out.0 e out.2.formed.same);
     }) h
   where
-    done : (n : Session) → InMarks w.tree.shape (last_of w) (marks_of n) → (grown w.tree.shape e).session ≡ w.tree.shape.session → Turn w.tree.shape n e
-        → InMarks (grown w.tree.shape e) (last_of (step o w (Done actor e))) (marks_of (record n { running = without_job n.running actor; frozen = flushed e n.frozen; edits_made = n.edits_made ++ e ∷ [] }))
+    done : (n : Session) → InMarks w.tree.shape (last_of w) (marks_of n) → (shape_after w.tree.shape e).session ≡ w.tree.shape.session → Turn w.tree.shape n e
+        → InMarks (shape_after w.tree.shape e) (last_of (step o w (Done actor e))) (marks_of (record n { running = without_job n.running actor; frozen = frozen_left e n.frozen; edits_made = n.edits_made ++ e ∷ [] }))
     done n x session (Stays to log same) =
         record {
           log_least = x.log_least;
@@ -390,7 +390,7 @@ numbers_step o w (Stop m e) h a = tt
 -- ---- numbers of entries
 
 -- what an outcome makes of the last number
-last_stays : (w : Standing) (n : Session) (e : Edit) → InMarks w.tree.shape (last_of w) (marks_of n) → Turn w.tree.shape n e → max (last_number w.batches) (grown w.tree.shape e).to ≡ last_of w
+last_stays : (w : Standing) (n : Session) (e : Edit) → InMarks w.tree.shape (last_of w) (marks_of n) → Turn w.tree.shape n e → max (last_number w.batches) (shape_after w.tree.shape e).to ≡ last_of w
 last_stays w n e x (Stays to log same) = omega (arith, to)
 last_stays w n e x (Flushes k fz to log same) = let z = x.frozen k fz in omega (arith, to, z.at, z.above, x.mem_last)
 

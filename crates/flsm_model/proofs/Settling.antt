@@ -1,21 +1,20 @@
 -- Each job that settles the store lessens what there is to do.
-use Rattle.std.proofs.Common.{◌≡◌, ℕ, zero, suc, ◌+◌, ◌<◌, ◌≤◌, Bool, true, false, cond, ◌&&◌, not, List, [], ◌∷◌, ◌++◌, length, ◌⊎◌, inl, inr, refl, sym, ap, subst, arith}
+use Rattle.std.proofs.Common.{nat_le, ◌≡◌, ℕ, zero, suc, ◌+◌, ◌<◌, ◌≤◌, Bool, true, false, cond, ◌&&◌, not, List, [], ◌∷◌, ◌++◌, length, ◌⊎◌, inl, inr, refl, sym, ap, subst, arith}
 use Rattle.std.specs.Prelude.{if◌then◌else◌, nat_lt, ◌==◌, ◌*◌}
 use Rattle.std.proofs.lemmas.Nat.{mul-add-lt, mul-le}
 use Rattle.std.specs.List.{list_all}
 use Rattle.std.specs.Cmp.Lexicographic.{bytes_decides}
 use Rattle.std.proofs.lemmas.Bool.{and_parts, and_from, or_left, or_right, eqb-true, eq-eqb, ltb-true, lt-ltb, le-ltb, leb-true, true≢false, false≢true, not-true, cases_lt}
 use Rattle.peb_base.specs.Keys.{Bytes, key_lt, key_eq}
-use Rattle.peb_base.specs.Choice.{meets}
 use Rattle.peb_base.specs.Profiles.{column, Column}
 use Rattle.peb_base.specs.declared.table_row.TableRow.{TableRow}
 use Rattle.flsm_model.specs.declared.chosen.Chosen.{Chosen}
 use Rattle.flsm_model.specs.declared.edit.Edit.{Edit}
 use Rattle.flsm_model.specs.declared.edit.Edit.TheVariants.{Open, Flush, Move, Cut, Merge}
 use Rattle.flsm_model.specs.Ranges.{has_key, first_of, with_key, with_keys, range_of}
-use Rattle.flsm_model.specs.Shape.{Record, Shape, empty_shape, shape_from, shape_of, outputs_of, grown, guards_at, has_number, rows_numbered, rows_without}
+use Rattle.flsm_model.specs.Shape.{Record, Shape, empty_shape, shape_from, shape_of, outputs_of, shape_after, guards_at, has_number, rows_numbered, rows_without}
 use Rattle.peb_base.specs.Tables.{is_row}
-use Rattle.flsm_model.specs.Fits.{fits, fit_from, is_new, is_of_session, rows_are_new, is_guard, is_live, is_chosen, is_some_list, is_straddled}
+use Rattle.flsm_model.specs.Fits.{fits, fit_from, is_new, is_of_session, rows_are_new, is_guard, is_live, is_some_list, is_straddled}
 use Rattle.flsm_model.specs.Writes.{total, one_if}
 use Rattle.peb_base.specs.Members.{IsIn}
 use Rattle.flsm_model.specs.Settling.{sum_to, entries_in, entries_above, levels_open, uncommitted, last_tables, Lessens, measure, MeasureFalls, entries_taken, frozen_after, HasWork, EditsSettle}
@@ -108,7 +107,7 @@ has_entry s (n ∷ ns) w a h =
 
 flush_lessens : (o : Column) (s : Shape) (frozen : ℕ) (row : TableRow) (from to log : ℕ) (chosen : List Chosen)
     → fits o s (Flush row from to log chosen) ≡ true → 0 < frozen → row.entries ≤ frozen
-    → Lessens o frozen s 0 (grown s (Flush row from to log chosen))
+    → Lessens o frozen s 0 (shape_after s (Flush row from to log chosen))
 flush_lessens o s frozen row from to log chosen f some few = inl (sum_lt (λ l. 0 + entries_above l after) (λ l. frozen + entries_above l s.live) o.last_level 0 each (omega arith) strict)
   where
     after : List TableRow
@@ -128,7 +127,7 @@ flush_lessens o s frozen row from to log chosen f some few = inl (sum_lt (λ l. 
 move_lessens : (o : Column) (s : Shape) (frozen level floor : ℕ) (inputs : List ℕ) (outputs : List TableRow)
     → fits o s (Move level floor inputs outputs) ≡ true → ((r : TableRow) → IsIn r s.live → 0 < r.entries)
     → entries_in outputs ≤ entries_in (rows_numbered inputs s.live)
-    → Lessens o frozen s frozen (grown s (Move level floor inputs outputs))
+    → Lessens o frozen s frozen (shape_after s (Move level floor inputs outputs))
 move_lessens o s frozen level floor inputs outputs f made few =
     let k = move_facts o s level floor inputs outputs f in
     inl (sum_lt (λ l. frozen + entries_above l after) (λ l. frozen + entries_above l s.live) o.last_level (suc level) (each k.at k.below) (omega (arith, k.above))
@@ -166,7 +165,7 @@ last_few o (r ∷ rs) = by (r.level == o.last_level) (last_few o rs)
 
 merge_lessens : (o : Column) (s : Shape) (frozen floor : ℕ) (whole : Bool) (inputs : List ℕ) (outputs : List TableRow)
     → fits o s (Merge floor whole inputs outputs) ≡ true → 2 ≤ last_tables o (rows_numbered inputs s.live)
-    → Lessens o frozen s frozen (grown s (Merge floor whole inputs outputs))
+    → Lessens o frozen s frozen (shape_after s (Merge floor whole inputs outputs))
 merge_lessens o s frozen floor whole inputs outputs f two =
     let k = merge_facts o s floor whole inputs outputs f in
     let p2 = and_parts _ _ (and_parts _ _ (and_parts _ _ (and_parts _ _ f).0).0).0 in
@@ -216,28 +215,28 @@ one_le true true true h = omega arith
 one_le true true false h = absurd (true≢false (sym (h refl)))
 
 module _ (o : Column) (s s2 : Shape) (stays : (l : ℕ) (k : Bytes) → is_guard s l k ≡ true → is_guard s2 l k ≡ true) where
-  levels_le : (k : Bytes) (n : ℕ) → levels_open o s2 k n ≤ levels_open o s k n
-  levels_le k zero = omega arith
-  levels_le k (suc n) = omega (arith, levels_le k n, one_le (meets o (suc n) k) (is_guard s (suc n) k) (is_guard s2 (suc n) k) (stays (suc n) k))
+  levels_le : (c : Chosen) (n : ℕ) → levels_open s2 c n ≤ levels_open s c n
+  levels_le c zero = omega arith
+  levels_le c (suc n) = omega (arith, levels_le c n, one_le (nat_le c.level (suc n)) (is_guard s (suc n) c.key) (is_guard s2 (suc n) c.key) (stays (suc n) c.key))
 
-  closed : (k : Bytes) (n : ℕ) → meets o n k ≡ true → is_guard s n k ≡ false → is_guard s2 n k ≡ true
-      → one_if (meets o n k && not (is_guard s2 n k)) < one_if (meets o n k && not (is_guard s n k))
-  closed k n a b c = rw (a, b, c) (omega arith)
+  closed : (c : Chosen) (n : ℕ) → nat_le c.level n ≡ true → is_guard s n c.key ≡ false → is_guard s2 n c.key ≡ true
+      → one_if (nat_le c.level n && not (is_guard s2 n c.key)) < one_if (nat_le c.level n && not (is_guard s n c.key))
+  closed c n a b d = rw (a, b, d) (omega arith)
 
-  levels_lt : (k : Bytes) (n m : ℕ) → 1 ≤ m → m ≤ n → meets o m k ≡ true → is_guard s m k ≡ false → is_guard s2 m k ≡ true
-      → levels_open o s2 k n < levels_open o s k n
-  levels_lt k zero m d q a b c = absurd (omega arith)
-  levels_lt k (suc n) m d q a b c = elim (cases_lt m (suc n)) [
-    | inl l ↦ omega (arith, levels_lt k n m d (omega arith) a b c, one_le (meets o (suc n) k) (is_guard s (suc n) k) (is_guard s2 (suc n) k) (stays (suc n) k))
+  levels_lt : (c : Chosen) (n m : ℕ) → 1 ≤ m → m ≤ n → nat_le c.level m ≡ true → is_guard s m c.key ≡ false → is_guard s2 m c.key ≡ true
+      → levels_open s2 c n < levels_open s c n
+  levels_lt c zero m d q a b g = absurd (omega arith)
+  levels_lt c (suc n) m d q a b g = elim (cases_lt m (suc n)) [
+    | inl l ↦ omega (arith, levels_lt c n m d (omega arith) a b g, one_le (nat_le c.level (suc n)) (is_guard s (suc n) c.key) (is_guard s2 (suc n) c.key) (stays (suc n) c.key))
     | inr l ↦
         let e : m ≡ suc n = omega arith in
-        let t = closed k (suc n) (subst (λ x. meets o x k ≡ true) e a) (subst (λ x. is_guard s x k ≡ false) e b) (subst (λ x. is_guard s2 x k ≡ true) e c) in
-        omega (arith, levels_le k n, t)
+        let t = closed c (suc n) (subst (λ x. nat_le c.level x ≡ true) e a) (subst (λ x. is_guard s x c.key ≡ false) e b) (subst (λ x. is_guard s2 x c.key ≡ true) e g) in
+        omega (arith, levels_le c n, t)
   ]
 
 cut_lessens : (o : Column) (s : Shape) (frozen level : ℕ) (keys : List Bytes) (inputs : List ℕ) (outputs : List TableRow)
     → InGuards o s → fits o s (Cut level keys inputs outputs) ≡ true → entries_in outputs ≤ entries_in (rows_numbered inputs s.live)
-    → Lessens o frozen s frozen (grown s (Cut level keys inputs outputs))
+    → Lessens o frozen s frozen (shape_after s (Cut level keys inputs outputs))
 cut_lessens o s frozen level keys inputs outputs g f few =
     let k = cut_facts o s level keys inputs outputs f in
     let at : list_all (λ r. r.level == level) (rows_numbered inputs s.live) ≡ true =
@@ -246,23 +245,23 @@ cut_lessens o s frozen level keys inputs outputs g f few =
     let p3 = and_parts _ _ (first_passes _ keys k.some k.candidates) in
     let p2 = and_parts _ _ p3.0 in
     let p1 = and_parts _ _ p2.0 in
-    let p0 = and_parts (is_chosen s.chosen (first_of keys)) (meets o level (first_of keys)) p1.0 in
     let fresh : is_guard s level (first_of keys) ≡ false = not-true _ p2.1 in
-    let c = any_in (λ (x : Chosen). key_eq (first_of keys) x.key) s.chosen p0.0 in
-    let same : first_of keys ≡ c.0.key = (bytes_decides (first_of keys) c.0.key).0 c.2 in
+    let c = any_in (λ (x : Chosen). nat_le x.level level && key_eq (first_of keys) x.key) s.chosen p1.0 in
+    let p0 = and_parts (nat_le c.0.level level) (key_eq (first_of keys) c.0.key) c.2 in
+    let same : first_of keys ≡ c.0.key = (bytes_decides (first_of keys) c.0.key).0 p0.1 in
     inr (inl (
       sum_le (λ l. frozen + entries_above l after) (λ l. frozen + entries_above l s.live) o.last_level (each at k.at),
-      total_lt (λ (x : Chosen). levels_open o s2 x.key o.last_level) (λ (x : Chosen). levels_open o s x.key o.last_level) c.0 s.chosen c.1
-          (λ x. levels_le o s s2 (λ l a. guard_stays o s e l a g f) x.key o.last_level)
-          (subst (λ x. levels_open o s2 x o.last_level < levels_open o s x o.last_level) same
-          (levels_lt o s s2 (λ l a. guard_stays o s e l a g f) (first_of keys) o.last_level level k.from k.upto p0.1 fresh (new_guard k.from k.upto k.some))),
+      total_lt (λ (x : Chosen). levels_open s2 x o.last_level) (λ (x : Chosen). levels_open s x o.last_level) c.0 s.chosen c.1
+          (λ x. levels_le o s s2 (λ l a. guard_stays o s e l a g f) x o.last_level)
+          (levels_lt o s s2 (λ l a. guard_stays o s e l a g f) c.0 o.last_level level k.from k.upto p0.0 (subst (λ x. is_guard s level x ≡ false) same fresh)
+          (subst (λ x. is_guard s2 level x ≡ true) same (new_guard k.from k.upto k.some))),
     ))
   where
     e : Edit
     e = Cut level keys inputs outputs
 
     s2 : Shape
-    s2 = grown s e
+    s2 = shape_after s e
 
     after : List TableRow
     after = rows_without inputs s.live ++ outputs
@@ -314,7 +313,7 @@ new_entries session used x h =
 -- live tables have entries
 has_entries : (o : Column) (s : Shape) (r : Record) → fit_from o s r ≡ true → ((x : TableRow) → IsIn x s.live → 0 < x.entries) → (x : TableRow) → IsIn x (shape_from s r).live → 0 < x.entries
 has_entries o s [] f h = h
-has_entries o s (e ∷ es) f h = let p = and_parts (fits o s e) _ f in has_entries o (grown s e) es p.1 (one e p.0)
+has_entries o s (e ∷ es) f h = let p = and_parts (fits o s e) _ f in has_entries o (shape_after s e) es p.1 (one e p.0)
   where
     some : (outputs : List TableRow) → rows_are_new s.session s.used outputs ≡ true → (x : TableRow) → IsIn x outputs → 0 < x.entries
     some outputs new x i = new_entries s.session s.used x (all_in (is_new s.session s.used) x outputs (and_parts (list_all (is_new s.session s.used) outputs) _ new).0 i)
@@ -325,7 +324,7 @@ has_entries o s (e ∷ es) f h = let p = and_parts (fits o s e) _ f in has_entri
       | inr b ↦ some outputs new x b
     ]
 
-    one : (e : Edit) → fits o s e ≡ true → (x : TableRow) → IsIn x (grown s e).live → 0 < x.entries
+    one : (e : Edit) → fits o s e ≡ true → (x : TableRow) → IsIn x (shape_after s e).live → 0 < x.entries
     one (Open session log) f = h
     one (Flush row from to log chosen) f = more [] (row ∷ []) (flush_facts o s row from to log chosen f).fresh
     one (Move level floor inputs outputs) f = more inputs outputs (move_facts o s level floor inputs outputs f).fresh
@@ -333,7 +332,7 @@ has_entries o s (e ∷ es) f h = let p = and_parts (fits o s e) _ f in has_entri
     one (Merge floor whole inputs outputs) f = more inputs outputs (merge_facts o s floor whole inputs outputs f).fresh
 
 settles : (o : Column) (s : Shape) (e : Edit) (frozen : ℕ) → InGuards o s → ((x : TableRow) → IsIn x s.live → 0 < x.entries) → fits o s e ≡ true → HasWork o s frozen e
-    → entries_in (outputs_of e) ≤ entries_taken s frozen e → Lessens o frozen s (frozen_after frozen e) (grown s e)
+    → entries_in (outputs_of e) ≤ entries_taken s frozen e → Lessens o frozen s (frozen_after frozen e) (shape_after s e)
 settles o s (Open session log) frozen g some f w few = absurd w
 settles o s (Flush row from to log chosen) frozen g some f w few = flush_lessens o s frozen row from to log chosen f w (omega (arith, few))
 settles o s (Move level floor inputs outputs) frozen g some f w few = move_lessens o s frozen level floor inputs outputs f some few

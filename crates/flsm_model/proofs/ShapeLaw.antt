@@ -8,7 +8,7 @@ use Rattle.peb_base.specs.Profiles.{column, Column}
 use Rattle.peb_base.specs.declared.table_row.TableRow.{TableRow}
 use Rattle.flsm_model.specs.declared.edit.Edit.{Edit}
 use Rattle.flsm_model.specs.declared.edit.Edit.TheVariants.{Open, Flush, Move, Cut, Merge}
-use Rattle.flsm_model.specs.Shape.{Record, Shape, empty_shape, grown, shape_from, shape_of, has_number, rows_without}
+use Rattle.flsm_model.specs.Shape.{Record, Shape, empty_shape, shape_after, shape_from, shape_of, has_number, rows_without}
 use Rattle.flsm_model.specs.Fits.{fits, fit_from, is_new, rows_are_new, numbers_differ}
 use Rattle.peb_base.specs.Members.{IsIn}
 use Rattle.flsm_model.specs.Sound.{NumbersSound, RecordsSound}
@@ -148,21 +148,21 @@ opened_sound s session more h = record {
   differ = h.differ;
 }
 
-sound_step : (o : Column) (s : Shape) (e : Edit) → fits o s e ≡ true → NumbersSound s → NumbersSound (grown s e)
+sound_step : (o : Column) (s : Shape) (e : Edit) → fits o s e ≡ true → NumbersSound s → NumbersSound (shape_after s e)
 sound_step o s (Open session log) f h =
     let more : s.session < session = ltb-true s.session session (and_parts _ _ (and_parts _ _ (and_parts _ _ f).0).0).0 in opened_sound s session more h
-sound_step o s (Flush row from to log chosen) f h = exchange_sound s (grown s (Flush row from to log chosen)) [] (row ∷ []) refl refl refl (flush_facts o s row from to log chosen f).fresh h
-sound_step o s (Move level floor inputs outputs) f h = exchange_sound s (grown s (Move level floor inputs outputs)) inputs outputs refl refl refl (move_facts o s level floor inputs outputs f).fresh h
-sound_step o s (Cut level keys inputs outputs) f h = exchange_sound s (grown s (Cut level keys inputs outputs)) inputs outputs refl refl refl (cut_facts o s level keys inputs outputs f).fresh h
-sound_step o s (Merge floor whole inputs outputs) f h = exchange_sound s (grown s (Merge floor whole inputs outputs)) inputs outputs refl refl refl (merge_facts o s floor whole inputs outputs f).fresh h
+sound_step o s (Flush row from to log chosen) f h = exchange_sound s (shape_after s (Flush row from to log chosen)) [] (row ∷ []) refl refl refl (flush_facts o s row from to log chosen f).fresh h
+sound_step o s (Move level floor inputs outputs) f h = exchange_sound s (shape_after s (Move level floor inputs outputs)) inputs outputs refl refl refl (move_facts o s level floor inputs outputs f).fresh h
+sound_step o s (Cut level keys inputs outputs) f h = exchange_sound s (shape_after s (Cut level keys inputs outputs)) inputs outputs refl refl refl (cut_facts o s level keys inputs outputs f).fresh h
+sound_step o s (Merge floor whole inputs outputs) f h = exchange_sound s (shape_after s (Merge floor whole inputs outputs)) inputs outputs refl refl refl (merge_facts o s floor whole inputs outputs f).fresh h
 
 pub sound_from : (o : Column) (s : Shape) (r : Record) → fit_from o s r ≡ true → NumbersSound s → NumbersSound (shape_from s r)
 sound_from o s [] f h = h
-sound_from o s (e ∷ es) f h = let p = and_parts (fits o s e) _ f in sound_from o (grown s e) es p.1 (sound_step o s e p.0 h)
+sound_from o s (e ∷ es) f h = let p = and_parts (fits o s e) _ f in sound_from o (shape_after s e) es p.1 (sound_step o s e p.0 h)
 
 guards_from : (o : Column) (s : Shape) (r : Record) → fit_from o s r ≡ true → InGuards o s → InGuards o (shape_from s r)
 guards_from o s [] f h = h
-guards_from o s (e ∷ es) f h = let p = and_parts (fits o s e) _ f in guards_from o (grown s e) es p.1 (in_guards_step o s e h p.0)
+guards_from o s (e ∷ es) f h = let p = and_parts (fits o s e) _ f in guards_from o (shape_after s e) es p.1 (in_guards_step o s e h p.0)
 
 pub records_sound : RecordsSound
 records_sound p r legal =

@@ -5,7 +5,7 @@ use Rattle.std.specs.List.{AllZip}
 use Rattle.std.proofs.lemmas.Bool.{and_parts, or_cases, eqb-true, ltb-true, leb-false}
 use Rattle.peb_base.specs.Batches.{Batches, entries_of, numbered, ordered_above, are_in_order, is_boundary, batches_to, last_number}
 use Rattle.flsm_model.specs.Compaction.{is_put}
-use Rattle.flsm_model.specs.Trees.{Describes, Table, Tree, contents, installed, written_by}
+use Rattle.flsm_model.specs.Trees.{Describes, Table, Tree, contents, tree_after, written_by}
 use Rattle.peb_base.specs.declared.op.Op.{Op}
 use Rattle.peb_base.specs.declared.entry.Entry.{Entry}
 use Rattle.peb_base.specs.Profiles.{Column}
@@ -18,7 +18,7 @@ use Rattle.flsm_model.specs.Fits.{fits}
 use Rattle.flsm_model.specs.Shape.{has_number, outputs_of}
 use Rattle.flsm_model.specs.Events.{Session}
 use Rattle.flsm_model.specs.Jobs.{floor_of}
-use Rattle.flsm_model.specs.Steps.{released}
+use Rattle.flsm_model.specs.Steps.{held_without}
 use Rattle.flsm_model.specs.Outcomes.{IsEditOf}
 use Rattle.flsm_model.proofs.Totals.{levels-paired}
 use Rattle.flsm_model.proofs.Facts.{move_facts, flush_facts, cut_facts, merge_facts}
@@ -47,17 +47,17 @@ pub floor_more : (held : List (ℕ × ℕ)) (a b : ℕ) → a ≤ b → floor_of
 floor_more [] a b l = l
 floor_more (h ∷ hs) a b l = omega (arith, floor_more hs a b l)
 
-pub floor_released : (p : ℕ × ℕ) (held : List (ℕ × ℕ)) (last : ℕ) → floor_of held last ≤ floor_of (released p held) last
+pub floor_released : (p : ℕ × ℕ) (held : List (ℕ × ℕ)) (last : ℕ) → floor_of held last ≤ floor_of (held_without p held) last
 floor_released p [] last = omega arith
 floor_released p (h ∷ hs) last = by (p.0 == h.0 && p.1 == h.1) (floor_released p hs last)
   where
-    by : (b : Bool) → floor_of hs last ≤ floor_of (released p hs) last → min h.1 (floor_of hs last) ≤ floor_of (cond b hs (h ∷ released p hs)) last
+    by : (b : Bool) → floor_of hs last ≤ floor_of (held_without p hs) last → min h.1 (floor_of hs last) ≤ floor_of (cond b hs (h ∷ held_without p hs)) last
     by true r = omega arith
     by false r = omega arith
 
 -- ---- one outcome
 
-pub levels_step : (o : Column) (bs : Batches) (t : Tree) (e : Edit) → fits o t.shape e ≡ true → AtLevels o t.tables → AtLevels o (installed o bs t e).tables
+pub levels_step : (o : Column) (bs : Batches) (t : Tree) (e : Edit) → fits o t.shape e ≡ true → AtLevels o t.tables → AtLevels o (tree_after o bs t e).tables
 levels_step o bs t e f h = record { level = λ u i. elim (after o bs t e u i) [ inl a ↦ h.level u a.0 | inr b ↦ new e f u b ] }
   where
     new : (e : Edit) → fits o t.shape e ≡ true → (u : Table) → IsIn u (written_by o bs t e) → u.row.level ≤ o.last_level
@@ -79,11 +79,11 @@ levels_step o bs t e f h = record { level = λ u i. elim (after o bs t e u i) [ 
 pub outcome_shows : (o : Column) (bs : Batches) (t : Tree) (n : Session) (j : Job) (e : Edit) (floor : ℕ) → IsEditOf j.kind n j e → fits o t.shape e ≡ true
     → AllZip (Describes o) (outputs_of e) (contents o bs t e) → Sound o t → InFlight o t j → OneByNumber t.tables → AtLevels o t.tables → j.floor ≤ floor
     → ((m : ℕ) → (t.shape.to ≤ m) ⊎ (floor ≤ m) → ShowsAt t bs m)
-    → (m : ℕ) → ((installed o bs t e).shape.to ≤ m) ⊎ (floor ≤ m) → ShowsAt (installed o bs t e) bs m
+    → (m : ℕ) → ((tree_after o bs t e).shape.to ≤ m) ⊎ (floor ≤ m) → ShowsAt (tree_after o bs t e) bs m
 outcome_shows o bs t n j e floor same f d s run one levels low h m at = by j.kind refl e same f d at
   where
-    turn : (e : Edit) → (installed o bs t e).shape.to ≡ t.shape.to → ((x : Entry) → is_put x.change ≡ true → IsNewest (Live t) x m ↔ IsNewest (Live (installed o bs t e)) x m)
-        → ((installed o bs t e).shape.to ≤ m) ⊎ (floor ≤ m) → ShowsAt (installed o bs t e) bs m
+    turn : (e : Edit) → (tree_after o bs t e).shape.to ≡ t.shape.to → ((x : Entry) → is_put x.change ≡ true → IsNewest (Live t) x m ↔ IsNewest (Live (tree_after o bs t e)) x m)
+        → ((tree_after o bs t e).shape.to ≤ m) ⊎ (floor ≤ m) → ShowsAt (tree_after o bs t e) bs m
     turn e q step at x put =
         let old = h m (subst (λ z. (z ≤ m) ⊎ (floor ≤ m)) q at) x put in
         let new = step x put in
@@ -93,7 +93,7 @@ outcome_shows o bs t n j e floor same f d s run one levels low h m at = by j.kin
     low_or f2 q at = elim at [ inl a ↦ inr a | inr b ↦ inl (omega arith) ]
 
     by : (a : JobKind) → j.kind ≡ a → (e : Edit) → IsEditOf a n j e → fits o t.shape e ≡ true → AllZip (Describes o) (outputs_of e) (contents o bs t e)
-        → ((installed o bs t e).shape.to ≤ m) ⊎ (floor ≤ m) → ShowsAt (installed o bs t e) bs m
+        → ((tree_after o bs t e).shape.to ≤ m) ⊎ (floor ≤ m) → ShowsAt (tree_after o bs t e) bs m
     by FlushJob k (Flush row from to log chosen) q f d at =
         let r = (flush_facts o t.shape row from to log chosen f) in
         let at2 : (t.shape.to ≤ m) ⊎ (floor ≤ m) = elim at [ inl a ↦ inl (omega (arith, r.follows, r.rises)) | inr b ↦ inr b ] in
@@ -110,7 +110,7 @@ outcome_shows o bs t n j e floor same f d s run one levels low h m at = by j.kin
     by MoveJob k (Merge fl whole inputs outputs) q f d at = absurd q
     by CutJob k (Cut level keys inputs outputs) q f d at =
         let c = cut_live o bs t level keys inputs outputs d one in
-        turn (Cut level keys inputs outputs) refl (λ x put. (newest_same (Live t) (Live (installed o bs t (Cut level keys inputs outputs))) x m c, newest_same (Live (installed o bs t (Cut level keys inputs outputs))) (Live t) x m (λ y. ((c y).1, (c y).0)))) at
+        turn (Cut level keys inputs outputs) refl (λ x put. (newest_same (Live t) (Live (tree_after o bs t (Cut level keys inputs outputs))) x m c, newest_same (Live (tree_after o bs t (Cut level keys inputs outputs))) (Live t) x m (λ y. ((c y).1, (c y).0)))) at
     by CutJob k (Open session log) q f d at = absurd q
     by CutJob k (Flush row from to log chosen) q f d at = absurd q
     by CutJob k (Move level fl inputs outputs) q f d at = absurd q

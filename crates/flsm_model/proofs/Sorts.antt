@@ -9,7 +9,7 @@ use Rattle.peb_base.specs.Batches.{Batches, entries_of}
 use Rattle.peb_base.specs.Entries.{in_order, put_in, entry_lt, entries_between}
 use Rattle.peb_base.specs.Tables.{first_key, last_key}
 use Rattle.flsm_model.specs.Compaction.{pieces, some_entries, before_key, from_key, kept}
-use Rattle.flsm_model.specs.Trees.{Describes, Table, Tree, content_of, merged, contents, paired, installed}
+use Rattle.flsm_model.specs.Trees.{Describes, Table, Tree, content_of, merged, contents, paired, tree_after}
 use Rattle.peb_base.specs.KeyLaws.{le_trans, le_refl, lt_le_weak}
 use Rattle.peb_base.specs.declared.entry.Entry.{Entry}
 use Rattle.peb_base.specs.declared.table_row.TableRow.{TableRow}
@@ -92,7 +92,7 @@ module _ (Q : List Entry → Type 0) (none : Q []) (order : (es : List Entry) �
   of_contents o bs t (Merge floor whole inputs outputs) c h i =
       of_some c (kept (merged t.tables inputs) floor whole) (less _ (merged t.tables inputs) (order (flat_map (content_of t.tables) inputs))) i
 
-  pub of_step : (o : Column) (bs : Batches) (t : Tree) (e : Edit) → ((u : Table) → IsIn u t.tables → Q u.entries) → (u : Table) → IsIn u (installed o bs t e).tables → Q u.entries
+  pub of_step : (o : Column) (bs : Batches) (t : Tree) (e : Edit) → ((u : Table) → IsIn u t.tables → Q u.entries) → (u : Table) → IsIn u (tree_after o bs t e).tables → Q u.entries
   of_step o bs t e h u i = elim (after o bs t e u i) [
     | inl a ↦ h u a.0
     | inr b ↦ of_contents o bs t e u.entries h (in_paired u (outputs_of e) (contents o bs t e) b).1
@@ -106,7 +106,7 @@ pub record AllSorted (ts : List Table) : Type 0 where
 pub sorted_contents : (o : Column) (bs : Batches) (t : Tree) (e : Edit) (c : List Entry) → AllSorted t.tables → IsIn c (contents o bs t e) → Sorted c
 sorted_contents o bs t e c h i = of_contents Sorted tt sorted_in_order sorted_filter o bs t e c h.sorted i
 
-pub sorted_step : (o : Column) (bs : Batches) (t : Tree) (e : Edit) → AllSorted t.tables → AllSorted (installed o bs t e).tables
+pub sorted_step : (o : Column) (bs : Batches) (t : Tree) (e : Edit) → AllSorted t.tables → AllSorted (tree_after o bs t e).tables
 sorted_step o bs t e h = record { sorted = of_step Sorted tt sorted_in_order sorted_filter o bs t e h.sorted }
 
 -- the ends of a sorted list
@@ -132,7 +132,7 @@ described o w (r ∷ rs) (c ∷ cs) d i = elim i [
 ]
 
 pub spans_step : (o : Column) (bs : Batches) (t : Tree) (e : Edit) → AllZip (Describes o) (outputs_of e) (contents o bs t e) → AllSorted t.tables → Spans t.tables
-    → Spans (installed o bs t e).tables
+    → Spans (tree_after o bs t e).tables
 spans_step o bs t e d h sp =
     record {
       spans = λ u y i p. elim (after o bs t e u i) [

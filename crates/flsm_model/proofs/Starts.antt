@@ -26,14 +26,14 @@ use Rattle.flsm_model.proofs.Lists.{in_filter, all_in, all_of}
 
 -- a key of a Cut in flight
 pub record CutKey (o : Column) (s : Shape) (j : Job) (a : Bytes) : Type 0 where
-  pub candidate : is_candidate o s j.level a ≡ true
+  pub candidate : is_candidate s.chosen j.level a ≡ true
   pub inside : in_range j.lo j.hi a ≡ true
   pub fresh : is_guard s j.level a ≡ false
   pub next : (j.level == o.last_level || is_guard s (suc j.level) a) ≡ true
 
 pub cut_key : (o : Column) (s : Shape) (j : Job) (a : Bytes) → KeepsCut o s j → IsIn a j.keys → CutKey o s j a
 cut_key o s j a f i =
-    let p3 = and_parts _ _ (all_in (λ x. is_candidate o s j.level x && in_range j.lo j.hi x && not (is_guard s j.level x) && (j.level == o.last_level || is_guard s (suc j.level) x)) a j.keys f.keys i) in
+    let p3 = and_parts _ _ (all_in (λ x. is_candidate s.chosen j.level x && in_range j.lo j.hi x && not (is_guard s j.level x) && (j.level == o.last_level || is_guard s (suc j.level) x)) a j.keys f.keys i) in
     let p2 = and_parts _ _ p3.0 in
     let p1 = and_parts _ _ p2.0 in
     record { candidate = p1.0; inside = p1.1; fresh = not-true _ p2.1; next = p3.1 }
@@ -127,7 +127,7 @@ undisturbed_starts o w n j guards nu eq l = by j.kind refl l.kind
             upto = f.upto;
             ascend = f.keys_ascend;
             some = f.some;
-            keys = subst (λ r. list_all (λ x. is_candidate o w.tree.shape j.level x && in_range r.0 r.1 x && not (is_guard w.tree.shape j.level x) && (j.level == o.last_level || is_guard w.tree.shape (suc j.level) x)) j.keys ≡ true) same f.candidates;
+            keys = subst (λ r. list_all (λ x. is_candidate w.tree.shape.chosen j.level x && in_range r.0 r.1 x && not (is_guard w.tree.shape j.level x) && (j.level == o.last_level || is_guard w.tree.shape (suc j.level) x)) j.keys ≡ true) same f.candidates;
             straddled = all_of _ (rows_numbered j.inputs w.tree.shape.live) (λ r i. (and_parts _ _ (all_in (is_straddled j.level (j.lo, j.hi) j.keys) r _ str i)).1);
             others = subst (λ r. list_all (λ x. not (is_straddled j.level r j.keys x)) (rows_without j.inputs w.tree.shape.live) ≡ true) same f.others;
           });

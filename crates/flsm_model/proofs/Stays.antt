@@ -15,11 +15,11 @@ use Rattle.flsm_model.specs.declared.edit.Edit.{Edit}
 use Rattle.flsm_model.specs.declared.job_kind.JobKind.{JobKind}
 use Rattle.flsm_model.specs.declared.job_kind.JobKind.TheVariants.{Flush as FlushJob, Move as MoveJob, Cut as CutJob, Merge as MergeJob}
 use Rattle.flsm_model.specs.declared.job.Job.{Job}
-use Rattle.flsm_model.specs.Shape.{grown, has_number, guards_at, inputs_of}
+use Rattle.flsm_model.specs.Shape.{shape_after, has_number, guards_at, inputs_of}
 use Rattle.flsm_model.specs.Fits.{is_live}
-use Rattle.flsm_model.specs.Trees.{Table, content_of, merged, installed, written_by, tables_without}
+use Rattle.flsm_model.specs.Trees.{Table, content_of, merged, tree_after, written_by, tables_without}
 use Rattle.flsm_model.specs.Events.{Event, Opened, Commit, Synced, Look, Hold, Release, Freeze, Begin, Done, Short, JournalFault, Stop, Session, Standing, last_of, Running, base}
-use Rattle.flsm_model.specs.Steps.{flushed, without_job, step, run}
+use Rattle.flsm_model.specs.Steps.{frozen_left, without_job, step, run}
 use Rattle.flsm_model.specs.Claims.{jobs_conflict}
 use Rattle.flsm_model.specs.Outcomes.{frozen_entries, outcome, outcome_at}
 use Rattle.flsm_model.specs.Jobs.{IsLawful, IsFlush, IsOfKind}
@@ -131,7 +131,7 @@ content_without ns (t ∷ ts) m h = by (has_number t.row.number ns) refl (conten
 
 -- another job's end leaves the inputs' entries
 pub inputs_stay : (o : Column) (w : Standing) (n : Session) (j k : Job) (e : Edit) → All o w → w.session ≡ Some n → Ends o w n j k e → Undisturbed o w.tree.shape j → Undisturbed o w.tree.shape k
-    → (m : ℕ) → has_number m k.inputs ≡ true → content_of (installed o w.batches w.tree e).tables m ≡ content_of w.tree.tables m
+    → (m : ℕ) → has_number m k.inputs ≡ true → content_of (tree_after o w.batches w.tree e).tables m ≡ content_of w.tree.tables m
 inputs_stay o w n j k e al eq en uj uk m hk =
     let jobs : JobsIn o w.tree n = subst (JobsHold o w.tree) eq al.holds.jobs in
     let r = any_in (λ (x : TableRow). x.number == m) w.tree.shape.live (all_in (is_live w.tree.shape) m k.inputs uk.live (number_in m k.inputs hk)) in
@@ -208,15 +208,15 @@ beside_of o w n actor e r st eq a i =
 
 -- where a Flush stays in flight, no other Flush has ended: what is frozen, and the last flush, stay
 no_flush : (o : Column) (w : Standing) (n : Session) (j k : Job) (e : Edit) → Ends o w n j k e → Undisturbed o w.tree.shape j → Undisturbed o w.tree.shape k → k.kind ≡ FlushJob
-    → ((f : Option ℕ) → flushed e f ≡ f) × ((grown w.tree.shape e).to ≡ w.tree.shape.to)
+    → ((f : Option ℕ) → frozen_left e f ≡ f) × ((shape_after w.tree.shape e).to ≡ w.tree.shape.to)
 no_flush o w n j k e en uj uk kf = by (edit_is n j e en.outcome.formed.same)
   where
-    by : EditIs j e → ((f : Option ℕ) → flushed e f ≡ f) × ((grown w.tree.shape e).to ≡ w.tree.shape.to)
+    by : EditIs j e → ((f : Option ℕ) → frozen_left e f ≡ f) × ((shape_after w.tree.shape e).to ≡ w.tree.shape.to)
     by (IsFlushOf q row from to log chosen s) =
         absurd (flush_flush j k en.apart q kf (subst (λ a. KeepsKind a o w.tree.shape j) q uj.kind) (subst (λ a. KeepsKind a o w.tree.shape k) kf uk.kind))
-    by (IsMoveOf q floor outputs s) = ((λ f. ap (λ z. flushed z f) s), ap (λ z. (grown w.tree.shape z).to) s)
-    by (IsCutOf q outputs s) = ((λ f. ap (λ z. flushed z f) s), ap (λ z. (grown w.tree.shape z).to) s)
-    by (IsMergeOf q floor whole outputs s) = ((λ f. ap (λ z. flushed z f) s), ap (λ z. (grown w.tree.shape z).to) s)
+    by (IsMoveOf q floor outputs s) = ((λ f. ap (λ z. frozen_left z f) s), ap (λ z. (shape_after w.tree.shape z).to) s)
+    by (IsCutOf q outputs s) = ((λ f. ap (λ z. frozen_left z f) s), ap (λ z. (shape_after w.tree.shape z).to) s)
+    by (IsMergeOf q floor whole outputs s) = ((λ f. ap (λ z. frozen_left z f) s), ap (λ z. (shape_after w.tree.shape z).to) s)
 
 frozen_step : (o : Column) (w : Standing) (e : Event) → Stands o w → FrozenHold w.session → Allowed o w w.session e → FrozenHold (step o w e).session
 frozen_step o w (Opened session log) st h a = λ r i. absurd i
@@ -274,7 +274,7 @@ input_content o w n r st eq (Release actor x) m a q i k h = refl
 input_content o w n r st eq (Freeze x) m a q i k h = refl
 input_content o w n r st eq (Begin actor job) m a q i k h = refl
 input_content o w n r st eq (Done actor e) m a q i k h =
-    let mm = mapped w.session (λ s. record s { running = without_job s.running actor; frozen = flushed e s.frozen; edits_made = s.edits_made ++ e ∷ [] }) n m eq q in
+    let mm = mapped w.session (λ s. record s { running = without_job s.running actor; frozen = frozen_left e s.frozen; edits_made = s.edits_made ++ e ∷ [] }) n m eq q in
     let b = beside_of o w n actor e r st eq a (subst (λ (s : Session). IsIn r s.running) (sym mm) i) in
     let c = calm_of o w n st eq in
     inputs_stay o w n b.0 r.1 e st.all eq b.1 (c (actor, b.0) b.2) (c r b.3) k h
@@ -308,11 +308,11 @@ frozen_content o w n r st ff eq j (Freeze x) m a q i k = absurd (none_is (subst 
     none_is z = absurd (false≢true z)
 frozen_content o w n r st ff eq j (Begin actor job) m a q i k = ap (λ (s : Session). frozen_entries w.batches w.tree.shape.to s.frozen) (sym (mapped w.session _ n m eq q))
 frozen_content o w n r st ff eq j (Done actor e) m a q i k =
-    let mm = mapped w.session (λ s. record s { running = without_job s.running actor; frozen = flushed e s.frozen; edits_made = s.edits_made ++ e ∷ [] }) n m eq q in
+    let mm = mapped w.session (λ s. record s { running = without_job s.running actor; frozen = frozen_left e s.frozen; edits_made = s.edits_made ++ e ∷ [] }) n m eq q in
     let b = beside_of o w n actor e r st eq a (subst (λ (s : Session). IsIn r s.running) (sym mm) i) in
     let c = calm_of o w n st eq in
     let same = no_flush o w n b.0 r.1 e b.1 (c (actor, b.0) b.2) (c r b.3) k in
-    ap (λ (s : Session). frozen_entries w.batches (grown w.tree.shape e).to s.frozen) (sym mm) ∙ (λ d. frozen_entries w.batches (same.1 d) (same.0 n.frozen d))
+    ap (λ (s : Session). frozen_entries w.batches (shape_after w.tree.shape e).to s.frozen) (sym mm) ∙ (λ d. frozen_entries w.batches (same.1 d) (same.0 n.frozen d))
 frozen_content o w n r st ff eq j (Short actor cause bytes) m a q i k = ap (λ (s : Session). frozen_entries w.batches w.tree.shape.to s.frozen) (sym (mapped w.session _ n m eq q))
 frozen_content o w n r st ff eq j JournalFault m a q i k = ap (λ (s : Session). frozen_entries w.batches w.tree.shape.to s.frozen) (sym (mapped w.session _ n m eq q))
 frozen_content o w n r st ff eq j (Stop x e) m a q i k = absurd (never_some m q)

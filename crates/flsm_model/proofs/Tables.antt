@@ -11,7 +11,7 @@ use Rattle.peb_base.specs.Members.{IsIn}
 use Rattle.peb_base.specs.Profiles.{column, Column}
 use Rattle.peb_base.specs.declared.entry.Entry.{Entry}
 use Rattle.flsm_model.specs.Shape.{Record, outputs_of}
-use Rattle.flsm_model.specs.Trees.{Describes, Table, Tree, contents, installed, tree_from, empty_tree}
+use Rattle.flsm_model.specs.Trees.{Describes, Table, Tree, contents, tree_after, tree_from, empty_tree}
 use Rattle.flsm_model.specs.TrueRecord.{DescribedFrom, IsNewest}
 use Rattle.flsm_model.specs.Writes.{copies, copies_in, one_if}
 use Rattle.flsm_model.specs.Contents.{TablesStand, put_value, NewestIsShown}
@@ -47,7 +47,7 @@ AllFall ts = (t : Table) → IsIn t ts → Falling t.entries
 
 fall_from : (o : Column) (bs : Batches) (t : Tree) (r : Record) → AllFall t.tables → AllFall (tree_from o bs t r).tables
 fall_from o bs t [] h = h
-fall_from o bs t (e ∷ es) h = fall_from o bs (installed o bs t e) es (of_step Falling tt falling_in_order falling_filter o bs t e h)
+fall_from o bs t (e ∷ es) h = fall_from o bs (tree_after o bs t e) es (of_step Falling tt falling_in_order falling_filter o bs t e h)
 
 -- ---- rows tell of their tables
 
@@ -57,7 +57,7 @@ AllTell o ts = (t : Table) → IsIn t ts → Describes o t.row t.entries
 tell_from : (o : Column) (bs : Batches) (t : Tree) (r : Record) → DescribedFrom o bs t r → AllTell o t.tables → AllTell o (tree_from o bs t r).tables
 tell_from o bs t [] d h = h
 tell_from o bs t (e ∷ es) d h =
-    tell_from o bs (installed o bs t e) es d.2 (λ u i. elim (after o bs t e u i) [
+    tell_from o bs (tree_after o bs t e) es d.2 (λ u i. elim (after o bs t e u i) [
       | inl a ↦ h u a.0
       | inr b ↦ described o u (outputs_of e) (contents o bs t e) d.0 b
     ])

@@ -8,7 +8,7 @@ use Rattle.peb_base.specs.Batches.{Batches, entries_of, numbered, ordered_above,
 use Rattle.peb_base.specs.Entries.{entries_between}
 use Rattle.peb_base.specs.Numbers.{session_of}
 use Rattle.peb_base.specs.Profiles.{column, Column}
-use Rattle.flsm_model.specs.Trees.{Describes, Tree, contents, installed, tree_of, empty_tree}
+use Rattle.flsm_model.specs.Trees.{Describes, Tree, contents, tree_after, tree_of, empty_tree}
 use Rattle.peb_base.specs.declared.op.Op.{Op}
 use Rattle.peb_base.specs.declared.entry.Entry.{Entry}
 use Rattle.flsm_model.specs.declared.edit.Edit.{Edit}
@@ -16,7 +16,7 @@ use Rattle.flsm_model.specs.declared.edit.Edit.TheVariants.{Open, Flush, Move, C
 use Rattle.flsm_model.specs.declared.job_kind.JobKind.{JobKind}
 use Rattle.flsm_model.specs.declared.job_kind.JobKind.TheVariants.{Flush as FlushJob, Move as MoveJob, Cut as CutJob, Merge as MergeJob}
 use Rattle.flsm_model.specs.declared.job.Job.{Job}
-use Rattle.flsm_model.specs.Shape.{Record, Shape, grown, shape_from, shape_of, empty_shape, outputs_of}
+use Rattle.flsm_model.specs.Shape.{Record, Shape, shape_after, shape_from, shape_of, empty_shape, outputs_of}
 use Rattle.flsm_model.specs.Fits.{fits, fit_from, is_legal_record}
 use Rattle.flsm_model.specs.Choices.{Chooses}
 use Rattle.flsm_model.specs.TrueRecord.{DescribedFrom, IsTrueRecord, Falls, Live, Flushed, SamePuts}
@@ -111,10 +111,10 @@ pub shape_told : (o : Column) (bs : Batches) (r : Record) (t : Tree) → Books o
 shape_told o bs r t h = ap (λ (x : Tree). x.shape) h.tree ∙ shape_same o bs (empty_tree o) r
 
 pub books_edit : (o : Column) (bs : Batches) (r : Record) (t : Tree) (e : Edit) → Books o bs r t → fits o t.shape e ≡ true
-    → AllZip (Describes o) (outputs_of e) (contents o bs t e) → Chooses o bs t e → Books o bs (r ++ e ∷ []) (installed o bs t e)
+    → AllZip (Describes o) (outputs_of e) (contents o bs t e) → Chooses o bs t e → Books o bs (r ++ e ∷ []) (tree_after o bs t e)
 books_edit o bs r t e h f d c =
     record {
-      tree = ap (λ u. installed o bs u e) h.tree ∙ sym (tree_push o bs (empty_tree o) r e);
+      tree = ap (λ u. tree_after o bs u e) h.tree ∙ sym (tree_push o bs (empty_tree o) r e);
       legal = fit_push o (empty_shape o) r e h.legal (subst (λ s. fits o s e ≡ true) (shape_told o bs r t h) f);
       described = described_push o bs (empty_tree o) r e h.described (subst (λ u. AllZip (Describes o) (outputs_of e) (contents o bs u e)) h.tree d) (subst (λ u. Chooses o bs u e) h.tree c);
     }
@@ -149,10 +149,10 @@ same_told o w f g h = record { books = h.books; boundary = h.boundary; frozen = 
 
 -- the last flush after an outcome is at a batch's end
 boundary_after : (o : Column) (w : Standing) (n : Session) (j : Job) (e : Edit) → IsEditOf j.kind n j e → is_boundary w.tree.shape.to w.batches ≡ true
-    → ((k : ℕ) → n.frozen ≡ Some k → is_boundary k w.batches ≡ true) → is_boundary (installed o w.batches w.tree e).shape.to w.batches ≡ true
+    → ((k : ℕ) → n.frozen ≡ Some k → is_boundary k w.batches ≡ true) → is_boundary (tree_after o w.batches w.tree e).shape.to w.batches ≡ true
 boundary_after o w n j e same b fz = by j.kind e same
   where
-    by : (a : JobKind) (e : Edit) → IsEditOf a n j e → is_boundary (installed o w.batches w.tree e).shape.to w.batches ≡ true
+    by : (a : JobKind) (e : Edit) → IsEditOf a n j e → is_boundary (tree_after o w.batches w.tree e).shape.to w.batches ≡ true
     by FlushJob (Flush row from to log chosen) q = fz to q.0
     by FlushJob (Open session log) q = absurd q
     by FlushJob (Move level fl inputs outputs) q = absurd q
@@ -249,11 +249,11 @@ told_step o w (Stop m (Some e)) hold pl sh h a = by w.session refl a sh.session 
     by None eq x y z = absurd x
     by (Some n) eq x y z =
         let out = job_in (last_running n) x.2.0 (λ q. IsOutcome o w n q e) x.2.1 in
-        let low : (installed o w.batches w.tree e).shape.to ≤ m = omega (arith, to_after o w n out.0 e out.2.formed.same y, x.1) in
+        let low : (tree_after o w.batches w.tree e).shape.to ≤ m = omega (arith, to_after o w n out.0 e out.2.formed.same y, x.1) in
         record {
-          books = books_batches o w.batches (batches_to m w.batches) (w.edits ++ e ∷ []) (installed o w.batches w.tree e) m
+          books = books_batches o w.batches (batches_to m w.batches) (w.edits ++ e ∷ []) (tree_after o w.batches w.tree e) m
               (books_edit o w.batches w.edits w.tree e h.books out.2.formed.fit (out.2.holds hold.tells) (out.2.chooses hold.tells)) (agree_drop 0 m w.batches pl.ordered x.0) low;
-          boundary = boundary_drop (installed o w.batches w.tree e).shape.to m w.batches (boundary_after o w n out.0 e out.2.formed.same h.boundary z) low;
+          boundary = boundary_drop (tree_after o w.batches w.tree e).shape.to m w.batches (boundary_after o w n out.0 e out.2.formed.same h.boundary z) low;
           frozen = tt;
         }
 
@@ -320,7 +320,7 @@ pub record Logs (s : Shape) : Type 0 where
   pub least : 1 ≤ s.log
   pub room : s.log ≤ s.session * 2 ^ 41 + 1
 
-logs_step : (o : Column) (s : Shape) (e : Edit) → fits o s e ≡ true → Logs s → Logs (grown s e)
+logs_step : (o : Column) (s : Shape) (e : Edit) → fits o s e ≡ true → Logs s → Logs (shape_after s e)
 logs_step o s (Open session log) f h =
     let p3 = and_parts _ _ f in
     let p2 = and_parts _ _ p3.0 in
@@ -345,7 +345,7 @@ logs_step o s (Merge floor whole inputs outputs) f h = record { least = h.least;
 
 logs_from : (o : Column) (s : Shape) (r : Record) → fit_from o s r ≡ true → Logs s → Logs (shape_from s r)
 logs_from o s [] f h = h
-logs_from o s (e ∷ es) f h = let p = and_parts (fits o s e) _ f in logs_from o (grown s e) es p.1 (logs_step o s e p.0 h)
+logs_from o s (e ∷ es) f h = let p = and_parts (fits o s e) _ f in logs_from o (shape_after s e) es p.1 (logs_step o s e p.0 h)
 
 pub logs_of : (o : Column) (w : Standing) → All o w → Logs w.tree.shape
 logs_of o w h = subst Logs (sym (shape_told o w.batches w.edits w.tree h.told.books)) (logs_from o (empty_shape o) w.edits h.told.books.legal (record { least = omega arith; room = omega arith }))

@@ -1,6 +1,6 @@
 -- A job in flight is not disturbed by the end of another one.
 use Rattle.std.proofs.Common.{◌≡◌, ℕ, suc, ◌≤◌, ◌≢◌, Bool, true, false, ◌&&◌, ◌||◌, not, List, [], ◌∷◌, ◌++◌, inl, inr, refl, sym, ◌∙◌, ap, subst, arith}
-use Rattle.std.specs.Prelude.{◌==◌, filter}
+use Rattle.std.specs.Prelude.{◌==◌, nat_le, filter}
 use Rattle.std.specs.List.{list_any, list_all}
 use Rattle.std.proofs.lemmas.Bool.{and_parts, and_from, or_left, or_right, or_cases, cases_Bool, eqb-true, eq-eqb, true≢false, false≢true, not-true}
 use Rattle.std.proofs.lemmas.List.Elements.{filter-append}
@@ -18,8 +18,8 @@ use Rattle.flsm_model.specs.declared.job_kind.JobKind.{JobKind}
 use Rattle.flsm_model.specs.declared.job_kind.JobKind.TheVariants.{Flush as FlushJob, Move as MoveJob, Cut as CutJob, Merge as MergeJob}
 use Rattle.flsm_model.specs.declared.job.Job.{Job}
 use Rattle.flsm_model.specs.declared.mode.Mode.TheVariants.{Take, Append, Cut as CutClaim}
-use Rattle.flsm_model.specs.Shape.{Shape, grown, has_number, guards_at, rows_numbered, rows_without, inputs_of, outputs_of}
-use Rattle.flsm_model.specs.Fits.{fits, lies_in, is_chosen, is_guard, is_live, is_straddled, is_of_session}
+use Rattle.flsm_model.specs.Shape.{Shape, shape_after, has_number, guards_at, rows_numbered, rows_without, inputs_of, outputs_of}
+use Rattle.flsm_model.specs.Fits.{fits, lies_in, is_chosen, is_candidate, is_guard, is_live, is_straddled, is_of_session}
 use Rattle.flsm_model.specs.Events.{Session, Standing}
 use Rattle.flsm_model.specs.Claims.{claim, claims_at, claims_conflict, jobs_conflict}
 use Rattle.flsm_model.specs.Jobs.{IsRange, guards_in, job_range}
@@ -74,7 +74,7 @@ cut_move j k e m =
 
 -- ---- what ends
 
-live_after : (s : Shape) (e : Edit) → ((a b : ℕ) → e ≢ Open a b) → (grown s e).live ≡ rows_without (inputs_of e) s.live ++ outputs_of e
+live_after : (s : Shape) (e : Edit) → ((a b : ℕ) → e ≢ Open a b) → (shape_after s e).live ≡ rows_without (inputs_of e) s.live ++ outputs_of e
 live_after s (Open a b) h = absurd (h a b refl)
 live_after s (Flush row from to log chosen) h = refl
 live_after s (Move level floor inputs outputs) h = refl
@@ -85,12 +85,19 @@ pub chosen_left : (cs ds : List Chosen) (k : Bytes) → is_chosen cs k ≡ true 
 chosen_left [] ds k h = absurd (false≢true h)
 chosen_left (c ∷ cs) ds k h = elim (or_cases (key_eq k c.key) (is_chosen cs k) h) [ inl s ↦ or_left _ _ s | inr r ↦ or_right (key_eq k c.key) _ (chosen_left cs ds k r) ]
 
-chosen_after : (s : Shape) (e : Edit) (k : Bytes) → is_chosen s.chosen k ≡ true → is_chosen (grown s e).chosen k ≡ true
-chosen_after s (Open a b) k h = h
-chosen_after s (Flush row from to log chosen) k h = chosen_left s.chosen chosen k h
-chosen_after s (Move level floor inputs outputs) k h = h
-chosen_after s (Cut level keys inputs outputs) k h = h
-chosen_after s (Merge floor whole inputs outputs) k h = h
+candidate_left : (cs ds : List Chosen) (level : ℕ) (k : Bytes) → is_candidate cs level k ≡ true → is_candidate (cs ++ ds) level k ≡ true
+candidate_left [] ds level k h = absurd (false≢true h)
+candidate_left (c ∷ cs) ds level k h = elim (or_cases (nat_le c.level level && key_eq k c.key) (is_candidate cs level k) h) [
+  | inl s ↦ or_left _ _ s
+  | inr r ↦ or_right (nat_le c.level level && key_eq k c.key) _ (candidate_left cs ds level k r)
+]
+
+candidate_after : (s : Shape) (e : Edit) (level : ℕ) (k : Bytes) → is_candidate s.chosen level k ≡ true → is_candidate (shape_after s e).chosen level k ≡ true
+candidate_after s (Open a b) level k h = h
+candidate_after s (Flush row from to log chosen) level k h = candidate_left s.chosen chosen level k h
+candidate_after s (Move at floor inputs outputs) level k h = h
+candidate_after s (Cut at keys inputs outputs) level k h = h
+candidate_after s (Merge floor whole inputs outputs) level k h = h
 
 -- what an edit of a job is
 pub data EditIs (j : Job) (e : Edit) : Type 0 where
@@ -136,7 +143,7 @@ module _ (o : Column) (w : Standing) (n : Session) (j k : Job) (e : Edit) (guard
       by (IsCutOf q outputs s) = ap inputs_of s
       by (IsMergeOf q floor whole outputs s) = ap inputs_of s
 
-  lives : (grown w.tree.shape e).live ≡ rows_without j.inputs w.tree.shape.live ++ outputs_of e
+  lives : (shape_after w.tree.shape e).live ≡ rows_without j.inputs w.tree.shape.live ++ outputs_of e
   lives = live_after w.tree.shape e (not_open o w n j e en.outcome) ∙ ap (λ ns. rows_without ns w.tree.shape.live ++ outputs_of e) gone
 
   -- a row in the range of a job has its smallest key in it
@@ -163,7 +170,7 @@ module _ (o : Column) (w : Standing) (n : Session) (j k : Job) (e : Edit) (guard
     | inr absent ↦ absent
   ]
 
-  rows_stay : rows_numbered k.inputs (grown w.tree.shape e).live ≡ rows_numbered k.inputs w.tree.shape.live
+  rows_stay : rows_numbered k.inputs (shape_after w.tree.shape e).live ≡ rows_numbered k.inputs w.tree.shape.live
   rows_stay =
       let p : TableRow → Bool = λ r. has_number r.number k.inputs in
       ap (filter p) lives ∙ filter-append p (rows_without j.inputs w.tree.shape.live) (outputs_of e)
@@ -171,9 +178,9 @@ module _ (o : Column) (w : Standing) (n : Session) (j k : Job) (e : Edit) (guard
       ∙ append-nil (filter p (rows_without j.inputs w.tree.shape.live))
       ∙ filter_under p (λ r. not (has_number r.number j.inputs)) w.tree.shape.live (λ r i h. ap not (inputs_apart r i h))
 
-  live_stays : list_all (is_live (grown w.tree.shape e)) k.inputs ≡ true
+  live_stays : list_all (is_live (shape_after w.tree.shape e)) k.inputs ≡ true
   live_stays =
-      all_of (is_live (grown w.tree.shape e)) k.inputs (λ m i.
+      all_of (is_live (shape_after w.tree.shape e)) k.inputs (λ m i.
       let r = any_in (λ (x : TableRow). x.number == m) w.tree.shape.live (all_in (is_live w.tree.shape) m k.inputs uk.live i) in
       let hk : has_number r.0.number k.inputs ≡ true = subst (λ z. has_number z k.inputs ≡ true) (sym (eqb-true r.0.number m r.2)) (has_in m k.inputs i) in
       subst (λ rs. list_any (λ (x : TableRow). x.number == m) rs ≡ true) (sym lives)
@@ -232,10 +239,10 @@ module _ (o : Column) (w : Standing) (n : Session) (j k : Job) (e : Edit) (guard
   own_outside : (keys : List Bytes) (inputs : List ℕ) (outputs : List TableRow) → e ≡ Cut k.level keys inputs outputs → list_all (λ a. not (in_range k.lo k.hi a)) keys ≡ true
   own_outside keys inputs outputs s = keys_outside k.level keys inputs outputs s (never_own k.level refl (cut_deep k.level keys inputs outputs s))
 
-  range_stays : IsRange (grown w.tree.shape e) k.level k
+  range_stays : IsRange (shape_after w.tree.shape e) k.level k
   range_stays = by (guards_turn o w.tree.shape e k.level guards en.outcome.formed.fit)
     where
-      by : GuardsTurn w.tree.shape e k.level → range_of (guards_at (grown w.tree.shape e) k.level) k.lo ≡ (k.lo, k.hi)
+      by : GuardsTurn w.tree.shape e k.level → range_of (guards_at (shape_after w.tree.shape e) k.level) k.lo ≡ (k.lo, k.hi)
       by (Same q) = ap (λ gs. range_of gs k.lo) q ∙ uk.range
       by (More keys inputs outputs s q) =
           ap (λ gs. range_of gs k.lo) q
@@ -243,24 +250,24 @@ module _ (o : Column) (w : Standing) (n : Session) (j k : Job) (e : Edit) (guard
           (subst (λ r. list_all (λ a. not (in_range r.0 r.1 a)) keys ≡ true) (sym uk.range) (own_outside keys inputs outputs s))
           ∙ uk.range
 
-  next_stays : k.kind ≡ MoveJob → guards_in (grown w.tree.shape e) (suc k.level) (job_range k) ≡ guards_in w.tree.shape (suc k.level) (job_range k)
+  next_stays : k.kind ≡ MoveJob → guards_in (shape_after w.tree.shape e) (suc k.level) (job_range k) ≡ guards_in w.tree.shape (suc k.level) (job_range k)
   next_stays q2 = by (guards_turn o w.tree.shape e (suc k.level) guards en.outcome.formed.fit)
     where
-      by : GuardsTurn w.tree.shape e (suc k.level) → filter (in_range k.lo k.hi) (guards_at (grown w.tree.shape e) (suc k.level)) ≡ filter (in_range k.lo k.hi) (guards_at w.tree.shape (suc k.level))
+      by : GuardsTurn w.tree.shape e (suc k.level) → filter (in_range k.lo k.hi) (guards_at (shape_after w.tree.shape e) (suc k.level)) ≡ filter (in_range k.lo k.hi) (guards_at w.tree.shape (suc k.level))
       by (Same q) = ap (filter (in_range k.lo k.hi)) q
       by (More keys inputs outputs s q) =
           ap (filter (in_range k.lo k.hi)) q
           ∙ filter_withs (in_range k.lo k.hi) keys (guards_at w.tree.shape (suc k.level))
           (keys_outside (suc k.level) keys inputs outputs s (λ c e2 m. true≢false (sym (cut_move j k e2 m) ∙ at_kinds CutJob MoveJob j k c q2 en.apart)))
 
-  session_stays : (grown w.tree.shape e).session ≡ w.tree.shape.session
+  session_stays : (shape_after w.tree.shape e).session ≡ w.tree.shape.session
   session_stays = same_session w.tree.shape e (not_open o w n j e en.outcome)
 
-  numbers_stay : NumbersFree (grown w.tree.shape e) k
+  numbers_stay : NumbersFree (shape_after w.tree.shape e) k
   numbers_stay =
       record {
         own = λ m a b. subst (λ s. is_of_session s m ≡ true) (sym session_stays) (uk.numbers.own m a b);
-        unused = λ m a b. elim (cases_Bool (has_number m (grown w.tree.shape e).used)) [
+        unused = λ m a b. elim (cases_Bool (has_number m (shape_after w.tree.shape e).used)) [
           | inl there ↦ elim (has_parts m w.tree.shape.used _ (subst (λ ns. has_number m ns ≡ true) (used_after w.tree.shape e (not_open o w n j e en.outcome)) there)) [
             | inl old ↦ absurd (true≢false (sym old ∙ uk.numbers.unused m a b))
             | inr new ↦ let c = block_of j (outputs_of e) m en.outcome.formed.numbers new in absurd (elim en.numbers [ inl x ↦ omega (arith, x, a, b, c.0, c.1) | inr x ↦ omega (arith, x, a, b, c.0, c.1) ])
@@ -314,7 +321,7 @@ module _ (o : Column) (w : Standing) (n : Session) (j k : Job) (e : Edit) (guard
           let h : KeepsMerge o j = subst (λ a. KeepsKind a o w.tree.shape j) q uj.kind in
           own_conflict j k en.apart (λ z. kinds2 (sym q ∙ z)) (λ z. kinds (sym q2 ∙ z)) (eq-eqb j.level k.level (h.level ∙ sym at ∙ level)) meet
 
-  cut_stays : k.kind ≡ CutJob → KeepsCut o w.tree.shape k → KeepsCut o (grown w.tree.shape e) k
+  cut_stays : k.kind ≡ CutJob → KeepsCut o w.tree.shape k → KeepsCut o (shape_after w.tree.shape e) k
   cut_stays q2 f =
       record {
         from = f.from;
@@ -323,12 +330,11 @@ module _ (o : Column) (w : Standing) (n : Session) (j k : Job) (e : Edit) (guard
         some = f.some;
         keys = all_of _ k.keys (λ a i.
             let p = cut_key o w.tree.shape k a f i in
-            let c = and_parts _ _ p.candidate in
-            and_from _ _ (and_from _ _ (and_from _ _ (and_from _ _ (chosen_after w.tree.shape e a c.0) c.1) p.inside) (no_guard a p.inside p.fresh (guards_turn o w.tree.shape e k.level guards en.outcome.formed.fit)))
+            and_from _ _ (and_from _ _ (and_from _ _ (candidate_after w.tree.shape e k.level a p.candidate) p.inside) (no_guard a p.inside p.fresh (guards_turn o w.tree.shape e k.level guards en.outcome.formed.fit)))
             (elim (or_cases _ _ p.next) [ inl x ↦ or_left _ _ x | inr y ↦ or_right (k.level == o.last_level) _ (guard_stays o w.tree.shape e (suc k.level) a guards en.outcome.formed.fit y) ]));
         straddled = subst (λ rs. list_all (λ r. list_any (straddles r) k.keys) rs ≡ true) (sym rows_stay) f.straddled;
-        others = all_of _ (rows_without k.inputs (grown w.tree.shape e).live) (λ r i.
-            let p = in_filter (λ (x : TableRow). not (has_number x.number k.inputs)) r (grown w.tree.shape e).live i in
+        others = all_of _ (rows_without k.inputs (shape_after w.tree.shape e).live) (λ r i.
+            let p = in_filter (λ (x : TableRow). not (has_number x.number k.inputs)) r (shape_after w.tree.shape e).live i in
             elim (in_append r (rows_without j.inputs w.tree.shape.live) (outputs_of e) (subst (IsIn r) lives p.0)) [
               | inl old ↦ all_in (λ (x : TableRow). not (is_straddled k.level (job_range k) k.keys x)) r (rows_without k.inputs w.tree.shape.live) f.others
                   (in_kept (λ (x : TableRow). not (has_number x.number k.inputs)) r w.tree.shape.live (in_filter _ r w.tree.shape.live old).0 p.1)
@@ -342,9 +348,9 @@ module _ (o : Column) (w : Standing) (n : Session) (j k : Job) (e : Edit) (guard
           let p = and_parts _ _ g in
           elim (or_cases (key_eq a q) (has_key a ks) h) [ inl s ↦ subst (λ z. in_range k.lo k.hi z ≡ false) (sym ((bytes_decides a q).0 s)) (not-true _ p.0) | inr r ↦ has_all a ks r p.1 ]
 
-      no_guard : (a : Bytes) → in_range k.lo k.hi a ≡ true → is_guard w.tree.shape k.level a ≡ false → GuardsTurn w.tree.shape e k.level → not (is_guard (grown w.tree.shape e) k.level a) ≡ true
+      no_guard : (a : Bytes) → in_range k.lo k.hi a ≡ true → is_guard w.tree.shape k.level a ≡ false → GuardsTurn w.tree.shape e k.level → not (is_guard (shape_after w.tree.shape e) k.level a) ≡ true
       no_guard a inside none (Same q) = ap not (ap (has_key a) q ∙ none)
-      no_guard a inside none (More keys inputs outputs s q) = elim (cases_Bool (is_guard (grown w.tree.shape e) k.level a)) [
+      no_guard a inside none (More keys inputs outputs s q) = elim (cases_Bool (is_guard (shape_after w.tree.shape e) k.level a)) [
         | inr absent ↦ ap not absent
         | inl there ↦ elim (withs_has a keys (guards_at w.tree.shape k.level) (subst (λ gs. has_key a gs ≡ true) q there)) [
           | inl new ↦ absurd (true≢false (sym inside ∙ has_all a keys new (own_outside keys inputs outputs s)))
@@ -352,7 +358,7 @@ module _ (o : Column) (w : Standing) (n : Session) (j k : Job) (e : Edit) (guard
         ]
       ]
 
-  pub undisturbed_stays : Undisturbed o (grown w.tree.shape e) k
+  pub undisturbed_stays : Undisturbed o (shape_after w.tree.shape e) k
   undisturbed_stays =
       record {
         range = range_stays;
@@ -363,7 +369,7 @@ module _ (o : Column) (w : Standing) (n : Session) (j k : Job) (e : Edit) (guard
         kind = by k.kind refl uk.kind;
       }
     where
-      by : (a : JobKind) → k.kind ≡ a → KeepsKind a o w.tree.shape k → KeepsKind a o (grown w.tree.shape e) k
+      by : (a : JobKind) → k.kind ≡ a → KeepsKind a o w.tree.shape k → KeepsKind a o (shape_after w.tree.shape e) k
       by FlushJob q f = f
       by MoveJob q f = record { above = f.above; some = f.some; keys = f.keys ∙ sym (next_stays q) }
       by CutJob q f = cut_stays q f

@@ -10,14 +10,14 @@ use Rattle.peb_base.specs.declared.profile.Profile.{Profile}
 use Rattle.flsm_model.specs.declared.edit.Edit.{Edit}
 use Rattle.flsm_model.specs.declared.edit.Edit.TheVariants.{Open}
 use Rattle.flsm_model.specs.declared.job.Job.{Job}
-use Rattle.flsm_model.specs.Shape.{Record, Shape, empty_shape, grown, shape_from, shape_of}
+use Rattle.flsm_model.specs.Shape.{Record, Shape, empty_shape, shape_after, shape_from, shape_of}
 use Rattle.flsm_model.specs.Fits.{fits, fit_from, is_legal_record}
 use Rattle.flsm_model.specs.Trees.{Tree, empty_tree}
 use Rattle.flsm_model.specs.Events.{Event, Opened, Commit, Synced, Look, Hold, Release, Freeze, Begin, Done, Short, JournalFault, Stop, Session, Standing, base, last_of}
 use Rattle.flsm_model.specs.Outcomes.{IsOutcome}
 use Rattle.flsm_model.specs.Legal.{Allowed, IsLegal, IsBase, last_running, AlwaysFormed}
 use Rattle.flsm_model.specs.Placing.{PlaceInGuards}
-use Rattle.flsm_model.specs.Steps.{without_job, flushed, step, run}
+use Rattle.flsm_model.specs.Steps.{without_job, frozen_left, step, run}
 use Rattle.flsm_model.specs.Stops.{RecordIsLegal, EndsWithSession}
 use Rattle.flsm_model.specs.Fronts.{EmptyIsTrue, FrontsAreLegal, MarksInOrder}
 use Rattle.flsm_model.specs.TrueRecord.{IsTrueRecord}
@@ -49,27 +49,27 @@ pub record ShapeStands (o : Column) (r : Record) (s : Shape) : Type 0 where
   pub guards : InGuards o s
   pub known : Known s
 
-pub shape_push : (s : Shape) (r : Record) (e : Edit) → shape_from s (r ++ e ∷ []) ≡ grown (shape_from s r) e
+pub shape_push : (s : Shape) (r : Record) (e : Edit) → shape_from s (r ++ e ∷ []) ≡ shape_after (shape_from s r) e
 shape_push s [] e = refl
-shape_push s (x ∷ r) e = shape_push (grown s x) r e
+shape_push s (x ∷ r) e = shape_push (shape_after s x) r e
 
 -- one edit more
-pub shape_edit : (o : Column) (r : Record) (s : Shape) (e : Edit) → ShapeStands o r s → fits o s e ≡ true → ShapeStands o (r ++ e ∷ []) (grown s e)
+pub shape_edit : (o : Column) (r : Record) (s : Shape) (e : Edit) → ShapeStands o r s → fits o s e ≡ true → ShapeStands o (r ++ e ∷ []) (shape_after s e)
 shape_edit o r s e h f =
     record {
       legal = fit_push o (empty_shape o) r e h.legal (subst (λ z. fits o z e ≡ true) h.shape f);
-      shape = ap (λ z. grown z e) h.shape ∙ sym (shape_push (empty_shape o) r e);
+      shape = ap (λ z. shape_after z e) h.shape ∙ sym (shape_push (empty_shape o) r e);
       guards = in_guards_step o s e h.guards f;
       known = known_step o s e f h.known;
     }
 
 known_from : (o : Column) (s : Shape) (r : Record) → fit_from o s r ≡ true → Known s → Known (shape_from s r)
 known_from o s [] f h = h
-known_from o s (e ∷ es) f h = let p = and_parts (fits o s e) _ f in known_from o (grown s e) es p.1 (known_step o s e p.0 h)
+known_from o s (e ∷ es) f h = let p = and_parts (fits o s e) _ f in known_from o (shape_after s e) es p.1 (known_step o s e p.0 h)
 
 pub guards_from : (o : Column) (s : Shape) (r : Record) → fit_from o s r ≡ true → InGuards o s → InGuards o (shape_from s r)
 guards_from o s [] f h = h
-guards_from o s (e ∷ es) f h = let p = and_parts (fits o s e) _ f in guards_from o (grown s e) es p.1 (in_guards_step o s e h p.0)
+guards_from o s (e ∷ es) f h = let p = and_parts (fits o s e) _ f in guards_from o (shape_after s e) es p.1 (in_guards_step o s e h p.0)
 
 pub shape_base : (o : Column) (r : Record) → is_legal_record o r ≡ true → ShapeStands o r (shape_of o r)
 shape_base o r h =
@@ -233,7 +233,7 @@ ends_step o w (Freeze m) h a = ends_map w.edits w.session _ (λ n. refl) h
 ends_step o w (Begin actor job) h a = ends_map w.edits w.session _ (λ n. refl) h
 ends_step o w (Done actor e) h a = by w.session h
   where
-    by : (s : Option Session) → Ends w.edits s → Ends (w.edits ++ e ∷ []) (option_map {T = Session} {U = Session} (λ s. record s { running = without_job s.running actor; frozen = flushed e s.frozen; edits_made = s.edits_made ++ e ∷ [] }) s)
+    by : (s : Option Session) → Ends w.edits s → Ends (w.edits ++ e ∷ []) (option_map {T = Session} {U = Session} (λ s. record s { running = without_job s.running actor; frozen = frozen_left e s.frozen; edits_made = s.edits_made ++ e ∷ [] }) s)
     by None x = tt
     by (Some n) x = (x.0, ap (λ es. es ++ e ∷ []) x.1 ∙ append_assoc x.0 n.edits_made (e ∷ []))
 ends_step o w (Short actor cause bytes) h a = ends_map w.edits w.session _ (λ n. refl) h

@@ -18,7 +18,10 @@ use Rattle.flsm_model.specs.Trees.{Tree}
 -- the keys of puts, each once, in their order
 abbrev pub put_keys : List Entry → List Bytes
 put_keys [] = []
-put_keys (e ∷ es) = if is_put e.change && not (has_key e.key (put_keys es)) then e.key ∷ put_keys es else put_keys es
+put_keys (e ∷ es) =
+    if is_put e.change && not (has_key e.key (put_keys es))
+    then e.key ∷ put_keys es
+    else put_keys es
 
 -- the key with its level, if it has one
 abbrev pub chosen_at : Bytes → Option ℕ → List Chosen
@@ -36,5 +39,6 @@ chosen_by o s es = choices o (filter (λ k. not (is_chosen s.chosen k)) (put_key
 
 -- a flush chooses exactly these
 abbrev pub Chooses : Column → Batches → Tree → Edit → Type 0
-Chooses o bs t (Flush row from to log chosen) = chosen ≡ chosen_by o t.shape (in_order (entries_between from to (entries_of bs)))
+Chooses o bs t (Flush row from to log chosen) =
+    chosen ≡ chosen_by o t.shape (in_order (entries_between from to (entries_of bs)))
 Chooses o bs t e = ⊤

@@ -14,11 +14,14 @@ use Rattle.flsm_model.specs.Trees.{Describes, Table, rows_of}
 use Rattle.flsm_model.specs.TrueRecord.{IsNewest}
 use Rattle.flsm_model.specs.Events.{Standing}
 
--- the rows of the tables are the live ones, in their order, each tells of its table, and entries within their limits ascend in each table
+-- the rows of the tables are the live ones, in their order, each tells of its table, and entries
+-- within their limits ascend in each table
 pub record TablesStand (o : Column) (w : Standing) : Type 0 where
   pub rows : rows_of w.tree.tables ≡ w.tree.shape.live
   pub described : (t : Table) → IsIn t w.tree.tables → Describes o t.row t.entries
-  pub sorted : ((x : Entry) → IsIn x (entries_of w.batches) → IsEntry x) → (t : Table) → IsIn t w.tree.tables → AreSorted t.entries
+  pub sorted :
+      ((x : Entry) → IsIn x (entries_of w.batches) → IsEntry x) → (t : Table) → IsIn t w.tree.tables
+      → AreSorted t.entries
 
 -- the value that a change puts
 abbrev pub put_value : Change → Option Bytes
@@ -29,10 +32,13 @@ put_value Delete = None
 abbrev pub NumbersDiffer : List Entry → Type 0
 NumbersDiffer es = (x y : Entry) → IsIn x es → IsIn y es → x.number ≡ y.number → x ≡ y
 
--- where numbers differ, a key's value in what entries show at n is that of its newest entry at or below n, and none where there is no entry
+-- where numbers differ, a key's value in what entries show at n is that of its newest entry at or
+-- below n, and none where there is no entry
 pub record LooksUp (es : List Entry) (n : ℕ) : Type 0 where
-  pub found : (x : Entry) → IsNewest (λ y. IsIn y es) x n → lookup x.key (shown es n) ≡ put_value x.change
-  pub absent : (k : Bytes) → ((x : Entry) → IsIn x es → x.number ≤ n → x.key ≡ k → ⊥) → lookup k (shown es n) ≡ None
+  pub found :
+      (x : Entry) → IsNewest (λ y. IsIn y es) x n → lookup x.key (shown es n) ≡ put_value x.change
+  pub absent : (k : Bytes) → ((x : Entry) → IsIn x es → x.number ≤ n → x.key ≡ k → ⊥)
+      → lookup k (shown es n) ≡ None
 
 -- so it is of all such entries
 abbrev pub NewestIsShown : Type 0

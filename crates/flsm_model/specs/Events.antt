@@ -41,30 +41,42 @@ pub record Session : Type 0 where
   pub frozen : Option ℕ  -- frozen up to this number, and not flushed
   pub held : List (ℕ × ℕ)  -- actors with the snapshots that they hold
   pub running : List Running
-  pub faulted : Option (List Running)  -- after the journal's fault: the jobs that were in flight at it
+  -- after the journal's fault: the jobs that were in flight at it
+  pub faulted : Option (List Running)
   pub edits_made : Record  -- after the opening's own edit
   pub jobs_cut_short : Shorts  -- the level into which each wrote, and the bytes
 
--- a job that was cut short, or in flight at a stop: the level into which it wrote, and the contents of its outcome
+-- a job that was cut short, or in flight at a stop: the level into which it wrote, and the contents
+-- of its outcome
 abbrev pub Attempt : Type 0
 Attempt = ℕ × List (List Entry)
 
 -- what stands after a history
 pub record Standing : Type 0 where
-  pub told : Bool  -- whether the entries of its tables are known: over devices that tell their bytes
+  -- whether the entries of its tables are known: over devices that tell their bytes
+  pub told : Bool
   pub batches : Batches
   pub edits : Record
   pub tree : Tree
   pub attempts : List Attempt
   pub session : Option Session
 
--- the last number: of the batches, or of the last flush where that is greater, as over tables of which nothing is read
+-- the last number: of the batches, or of the last flush where that is greater, as over tables of
+-- which nothing is read
 abbrev pub last_of : Standing → ℕ
 last_of w = max (last_number w.batches) w.tree.shape.to
 
 -- before the first event, over batches and a record
 abbrev pub base : Bool → Column → Batches → Record → Standing
-base told o bs r = record { told = told; batches = bs; edits = r; tree = tree_of o bs r; attempts = []; session = None }
+base told o bs r =
+    record {
+      told = told;
+      batches = bs;
+      edits = r;
+      tree = tree_of o bs r;
+      attempts = [];
+      session = None;
+    }
 
 -- a session right after its opening
 abbrev pub new_session : Standing → ℕ → Session

@@ -3,7 +3,7 @@ use Rattle.std.specs.Prelude.{◌≡◌, ℕ, suc, ◌+◌, ◌-◌, ◌*◌, �
 use Rattle.std.specs.List.{list_any, list_all}
 use Rattle.peb_base.specs.Keys.{Bytes, key_lt, key_le, key_eq}
 use Rattle.peb_base.specs.Numbers.{session_of, count_of}
-use Rattle.peb_base.specs.Choice.{meets, level_of}
+use Rattle.peb_base.specs.Choice.{level_of}
 use Rattle.peb_base.specs.Tables.{is_row}
 use Rattle.flsm_model.specs.Compaction.{straddles}
 use Rattle.peb_base.specs.declared.table_row.TableRow.{TableRow}
@@ -12,7 +12,7 @@ use Rattle.flsm_model.specs.declared.chosen.Chosen.{Chosen}
 use Rattle.flsm_model.specs.declared.edit.Edit.{Edit}
 use Rattle.flsm_model.specs.declared.edit.Edit.TheVariants.{Open, Flush, Move, Cut, Merge}
 use Rattle.flsm_model.specs.Ranges.{is_below, in_range, has_key, neighbours, keys_ascend, first_of, with_keys, range_of}
-use Rattle.flsm_model.specs.Shape.{Record, Shape, empty_shape, guards_at, has_number, is_numbered, rows_numbered, rows_without, grown, shape_of}
+use Rattle.flsm_model.specs.Shape.{Record, Shape, empty_shape, guards_at, has_number, is_numbered, rows_numbered, rows_without, shape_after, shape_of}
 
 -- ---- guards and candidates
 
@@ -20,9 +20,10 @@ use Rattle.flsm_model.specs.Shape.{Record, Shape, empty_shape, guards_at, has_nu
 abbrev pub is_chosen : List Chosen → Bytes → Bool
 is_chosen cs key = list_any (λ c. key_eq key c.key) cs
 
--- the key may become a guard of the level: it was chosen, and its bits meet the level's need
-abbrev pub is_candidate : Column → Shape → ℕ → Bytes → Bool
-is_candidate o s level key = is_chosen s.chosen key && meets o level key
+-- the key is a candidate for a guard of the level: it was chosen with this level or with a
+-- shallower one
+abbrev pub is_candidate : List Chosen → ℕ → Bytes → Bool
+is_candidate cs level key = list_any (λ c. nat_le c.level level && key_eq key c.key) cs
 
 -- the key is a guard of the level
 abbrev pub is_guard : Shape → ℕ → Bytes → Bool
@@ -49,11 +50,14 @@ begins_past guards other row = not (is_below row.smallest (range_of_row guards o
 
 -- each row lies in one guard, and begins past the guard of the row before it
 abbrev pub lie_apart : List Bytes → List TableRow → Bool
-lie_apart guards rows = list_all (λ r. lies_in (range_of_row guards r) r) rows && list_all (λ p. begins_past guards p.0 p.1) (neighbours rows)
+lie_apart guards rows =
+    list_all (λ r. lies_in (range_of_row guards r) r) rows
+    && list_all (λ p. begins_past guards p.0 p.1) (neighbours rows)
 
 -- the row is a table of the range that one of the keys splits
 abbrev pub is_straddled : ℕ → Bytes × Option Bytes → List Bytes → TableRow → Bool
-is_straddled level range keys row = row.level == level && lies_in range row && list_any (straddles row) keys
+is_straddled level range keys row =
+    row.level == level && lies_in range row && list_any (straddles row) keys
 
 -- ---- numbers and rows of an edit
 
@@ -72,7 +76,8 @@ is_live s n = is_numbered s.live n
 
 -- the range of the guard in which the first input begins
 abbrev pub input_range : Shape → ℕ → List ℕ → Bytes × Option Bytes
-input_range s level inputs = range_of (guards_at s level) (first_smallest (rows_numbered inputs s.live))
+input_range s level inputs =
+    range_of (guards_at s level) (first_smallest (rows_numbered inputs s.live))
 
 -- inputs of a compaction: ascending, at least one, live, at the level, in one guard
 abbrev pub are_inputs : Shape → ℕ → List ℕ → Bool
@@ -92,11 +97,13 @@ numbers_differ (n ∷ ns) = not (has_number n ns) && numbers_differ ns
 
 -- the row is in its form, and has a number of the session that isn't used
 abbrev pub is_new : ℕ → List ℕ → TableRow → Bool
-is_new session used r = is_row 0 r && is_of_session session r.number && not (has_number r.number used)
+is_new session used r =
+    is_row 0 r && is_of_session session r.number && not (has_number r.number used)
 
 -- each row is new, and their numbers differ
 abbrev pub rows_are_new : ℕ → List ℕ → List TableRow → Bool
-rows_are_new session used rows = list_all (is_new session used) rows && numbers_differ (map (λ r. r.number) rows)
+rows_are_new session used rows =
+    list_all (is_new session used) rows && numbers_differ (map (λ r. r.number) rows)
 
 -- the rows ascend by their smallest keys
 abbrev pub rows_ascend : List TableRow → Bool
@@ -119,29 +126,36 @@ are_choices o s chosen =
     list_all (λ p. key_lt p.0.key p.1.key) (neighbours chosen)
     && list_all (is_choice o s) chosen
 
--- the key may be cut at the level: a candidate in the range that is no guard there yet, and is one of the next level
+-- the key may be cut at the level: a candidate in the range that is no guard there yet, and is one
+-- of the next level
 abbrev pub may_be_cut : Column → Shape → ℕ → Bytes × Option Bytes → Bytes → Bool
 may_be_cut o s level range key =
-    is_candidate o s level key && in_range range.0 range.1 key && not (is_guard s level key)
+    is_candidate s.chosen level key && in_range range.0 range.1 key && not (is_guard s level key)
     && (level == o.last_level || is_guard s (suc level) key)
 
--- the row of a piece of a cut: at the level, in the range that is cut, and in one of the guards after the cut
+-- the row of a piece of a cut: at the level, in the range that is cut, and in one of the guards
+-- after the cut
 abbrev pub is_cut_output : ℕ → Bytes × Option Bytes → List Bytes → TableRow → Bool
-is_cut_output level range guards row = row.level == level && lies_in range row && lies_in (range_of_row guards row) row
+is_cut_output level range guards row =
+    row.level == level && lies_in range row && lies_in (range_of_row guards row) row
 
 -- ---- edits
 
 -- the edit fits the shape
 abbrev pub fits : Column → Shape → Edit → Bool
 fits o s (Open session log) =
-    nat_lt s.session session && nat_le s.log log && nat_le 1 log && nat_le log ((session - 1) * 2 ^ 41 + 1)
+    nat_lt s.session session && nat_le s.log log && nat_le 1 log
+    && nat_le log ((session - 1) * 2 ^ 41 + 1)
 fits o s (Flush row from to log chosen) =
-    from == s.to && nat_lt from to && nat_lt s.log log && nat_lt 1 log && nat_lt to ((s.session + 1) * 2 ^ 40)
-    && nat_le log (s.session * 2 ^ 41) && row.level == 0 && nat_lt from row.first && nat_le row.last to
+    from == s.to && nat_lt from to && nat_lt s.log log && nat_lt 1 log
+    && nat_lt to ((s.session + 1) * 2 ^ 40)
+    && nat_le log (s.session * 2 ^ 41) && row.level == 0 && nat_lt from row.first
+    && nat_le row.last to
     && are_choices o s chosen && rows_are_new s.session s.used (row ∷ [])
 fits o s (Move level floor inputs outputs) =
     nat_lt level o.last_level && are_inputs s level inputs
-    && list_all (λ r. r.level == suc level) outputs && rows_ascend outputs && lie_apart (guards_at s (suc level)) outputs
+    && list_all (λ r. r.level == suc level) outputs && rows_ascend outputs
+    && lie_apart (guards_at s (suc level)) outputs
     && rows_are_new s.session s.used outputs
 fits o s (Cut level keys inputs outputs) =
     let range = range_of (guards_at s level) (first_of keys) in
@@ -154,13 +168,14 @@ fits o s (Cut level keys inputs outputs) =
     && rows_are_new s.session s.used outputs
 fits o s (Merge floor whole inputs outputs) =
     are_inputs s o.last_level inputs && nat_le (length outputs) 1
-    && list_all (λ r. r.level == o.last_level) outputs && list_all (lies_in (input_range s o.last_level inputs)) outputs
+    && list_all (λ r. r.level == o.last_level) outputs
+    && list_all (lies_in (input_range s o.last_level inputs)) outputs
     && rows_are_new s.session s.used outputs
 
 -- each of the edits fits those before it
 abbrev pub fit_from : Column → Shape → Record → Bool
 fit_from o s [] = true
-fit_from o s (e ∷ es) = fits o s e && fit_from o (grown s e) es
+fit_from o s (e ∷ es) = fits o s e && fit_from o (shape_after s e) es
 
 -- each edit of the record fits those before it
 abbrev pub is_legal_record : Column → Record → Bool
@@ -171,6 +186,9 @@ pub record IsShapeOf (o : Column) (s : Shape) (r : Record) : Type 0 where
   pub legal : is_legal_record o r ≡ true
   pub shape : s ≡ shape_of o r
 
--- of the record that the old shape is of: the edit was taken in exactly where the record with it is legal, and the new shape is of what then stands
+-- of the record that the old shape is of: the edit was taken in exactly where the record with it is
+-- legal, and the new shape is of what then stands
 abbrev pub GoesOn : Column → Shape → Shape → Edit → Bool → Type 0
-GoesOn o old new e taken = (r : Record) → IsShapeOf o old r → (taken ≡ is_legal_record o (r ++ e ∷ [])) × IsShapeOf o new (if taken then r ++ e ∷ [] else r)
+GoesOn o old new e taken =
+    (r : Record) → IsShapeOf o old r
+    → (taken ≡ is_legal_record o (r ++ e ∷ [])) × IsShapeOf o new (if taken then r ++ e ∷ [] else r)

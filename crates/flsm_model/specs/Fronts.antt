@@ -12,9 +12,12 @@ EmptyIsTrue = (p : Profile) → IsTrueRecord (column p) [] []
 
 -- each front of a legal history is legal
 abbrev pub FrontsAreLegal : Type 0
-FrontsAreLegal = (o : Column) (w : Standing) (front rest : List Event) → IsLegal o w (front ++ rest) → IsLegal o w front
+FrontsAreLegal =
+    (o : Column) (w : Standing) (front rest : List Event) → IsLegal o w (front ++ rest)
+    → IsLegal o w front
 
--- the last flush is stable, and what is stable is at most the last number; what is frozen lies above that flush, and is stable too
+-- the last flush is stable, and what is stable is at most the last number; what is frozen lies
+-- above that flush, and is stable too
 pub record MarksStand (w : Standing) (n : Session) : Type 0 where
   pub flushed : w.tree.shape.to ≤ n.stable
   pub stable : n.stable ≤ last_of w

@@ -1,8 +1,7 @@
 -- Which jobs may begin.
-use Rattle.std.specs.Prelude.{◌≡◌, ℕ, zero, suc, ◌+◌, ◌-◌, ◌*◌, ◌^◌, ◌<◌, min, Bool, true, ◌&&◌, ◌||◌, not, List, [], ◌∷◌, length, filter, ◌==◌, Option, None, IsSome}
+use Rattle.std.specs.Prelude.{◌≡◌, ℕ, zero, suc, ◌+◌, ◌-◌, ◌*◌, ◌^◌, ◌<◌, min, Bool, true, ◌&&◌, ◌||◌, not, List, [], ◌∷◌, length, filter, nat_le, ◌==◌, Option, None, IsSome}
 use Rattle.std.specs.List.{list_all}
 use Rattle.peb_base.specs.Keys.{Bytes}
-use Rattle.peb_base.specs.Choice.{meets}
 use Rattle.peb_base.specs.Profiles.{Column}
 use Rattle.flsm_model.specs.declared.edit.Edit.TheVariants.{Move, Cut, Merge}
 use Rattle.flsm_model.specs.declared.job_kind.JobKind.{JobKind}
@@ -51,17 +50,21 @@ are_all_tables s level range inputs =
 
 -- every input lies in the range
 abbrev pub are_tables : Shape → Bytes × Option Bytes → List ℕ → Bool
-are_tables s range inputs = list_all (λ r. not (has_number r.number inputs) || lies_in range r) s.live
+are_tables s range inputs =
+    list_all (λ r. not (has_number r.number inputs) || lies_in range r) s.live
 
 -- the key is a guard of `count` levels from `level` on
 abbrev pub is_guard_from : Shape → Bytes → ℕ → ℕ → Bool
 is_guard_from s key level zero = true
-is_guard_from s key level (suc count) = is_guard s level key && is_guard_from s key (suc level) count
+is_guard_from s key level (suc count) =
+    is_guard s level key && is_guard_from s key (suc level) count
 
 -- each candidate of the level in the range is a guard of it and of every deeper one
 abbrev pub are_committed : Column → Shape → ℕ → Bytes × Option Bytes → Bool
 are_committed o s level range =
-    list_all (λ c. not (meets o level c.key && in_range range.0 range.1 c.key) || is_guard_from s c.key level (suc o.last_level - level)) s.chosen
+    list_all (λ c.
+    not (nat_le c.level level && in_range range.0 range.1 c.key)
+    || is_guard_from s c.key level (suc o.last_level - level)) s.chosen
 
 -- ---- kinds
 
@@ -72,7 +75,8 @@ pub record IsFlush (n : Session) (j : Job) : Type 0 where
   pub level : j.level ≡ 0
   pub nothing : (j.inputs ≡ []) × (j.keys ≡ [])
 
--- it takes all tables of a guard, or of level 0, once the candidates of the next level are guards there; its keys are that level's guards
+-- it takes all tables of a guard, or of level 0, once the candidates of the next level are guards
+-- there; its keys are that level's guards
 pub record IsMove (o : Column) (s : Shape) (n : Session) (j : Job) : Type 0 where
   pub range : IsRange s j.level j
   pub fit : fits o s (Move j.level j.floor j.inputs []) ≡ true
@@ -104,7 +108,8 @@ IsOfKind MoveJob o s n j = IsMove o s n j
 IsOfKind CutJob o s n j = IsCut o s n j
 IsOfKind MergeJob o s n j = IsMerge o s n j
 
--- the job may begin: it conflicts with no job in flight, keeps what snapshots need, and has the next table numbers
+-- the job may begin: it conflicts with no job in flight, keeps what snapshots need, and has the
+-- next table numbers
 pub record IsLawful (o : Column) (w : Standing) (n : Session) (j : Job) : Type 0 where
   pub free : is_free j n.running ≡ true
   pub floor : j.floor ≡ floor_of n.held (last_of w)

@@ -1,4 +1,5 @@
--- The ledger: what edits wrote into each level, and what jobs that were cut short wrote in vain. Its sums stop at the type's end.
+-- The ledger: what edits wrote into each level, and what jobs that were cut short wrote in vain.
+-- Its sums stop at the type's end.
 use Rattle.std.specs.Prelude.{◌≡◌, ℕ, ◌+◌, ◌-◌, ◌^◌, ◌<◌, min, List, [], length, filter, flat_map, sum_by, ◌==◌, slice_index_or}
 use Rattle.peb_base.specs.declared.table_row.TableRow.{TableRow}
 use Rattle.flsm_model.specs.declared.edit.Edit.{Edit}
@@ -31,7 +32,8 @@ Shorts = List (ℕ × ℕ)
 abbrev pub shorts_at : ℕ → Shorts → Shorts
 shorts_at level shorts = filter (λ p. p.0 == level) shorts
 
--- what was written into the level, where these rows were added, of which Cuts wrote some, and these jobs were cut short
+-- what was written into the level, where these rows were added, of which Cuts wrote some, and these
+-- jobs were cut short
 abbrev pub level_count : List TableRow → List TableRow → Shorts → ℕ → LevelCount
 level_count rows cuts shorts level =
     record {
@@ -49,7 +51,9 @@ ledger es shorts level = level_count (flat_map outputs_of es) (flat_map cut_rows
 
 -- the counts are those of these rows and jobs
 abbrev pub Counts : List LevelCount → List TableRow → List TableRow → Shorts → Type 0
-Counts counts rows cuts shorts = (level : ℕ) → level < length counts → slice_index_or counts level nothing ≡ level_count rows cuts shorts level
+Counts counts rows cuts shorts =
+    (level : ℕ) → level < length counts
+    → slice_index_or counts level nothing ≡ level_count rows cuts shorts level
 
 -- the counts are the ledger of these edits and jobs
 abbrev pub IsLedger : List LevelCount → Record → Shorts → Type 0
@@ -58,7 +62,11 @@ IsLedger counts es shorts = Counts counts (flat_map outputs_of es) (flat_map cut
 -- the counts of a level with one row more
 abbrev pub with_row : TableRow → LevelCount → LevelCount
 with_row row c =
-    record c { tables = capped (c.tables + 1); entries = capped (c.entries + row.entries); bytes = capped (c.bytes + row.bytes) }
+    record c {
+      tables = capped (c.tables + 1);
+      entries = capped (c.entries + row.entries);
+      bytes = capped (c.bytes + row.bytes);
+    }
 
 -- the counts of a level with one row more that a Cut wrote
 abbrev pub with_cut_row : TableRow → LevelCount → LevelCount

@@ -37,7 +37,8 @@ holds_of actor held = total (λ h. one_if (h.0 == actor)) held
 abbrev pub AllowedIn : Column → Standing → Session → Event → Type 0
 AllowedIn o w n (Opened session log) = ⊥
 AllowedIn o w n (Commit actor first ops) =
-    (n.faulted ≡ None) × (1 ≤ length ops) × (length ops ≤ 1000) × (first ≡ w.tree.shape.session * 2 ^ 40 + 1 + n.committed)
+    (n.faulted ≡ None) × (1 ≤ length ops) × (length ops ≤ 1000)
+    × (first ≡ w.tree.shape.session * 2 ^ 40 + 1 + n.committed)
     × (n.committed + length ops < 2 ^ 40)
 AllowedIn o w n (Synced actor m) = (n.faulted ≡ None) × (m ≡ last_of w)
 AllowedIn o w n (Look actor m) = m ≡ last_of w
@@ -45,8 +46,10 @@ AllowedIn o w n (Hold actor m) = (m ≡ last_of w) × (holds_of actor n.held < 6
 AllowedIn o w n (Release actor m) = is_held (actor, m) n.held ≡ true
 AllowedIn o w n (Freeze m) =
     (n.faulted ≡ None) × (n.frozen ≡ None) × (n.mem_from < last_of w) × (m ≡ last_of w)
-AllowedIn o w n (Begin actor job) = (n.faulted ≡ None) × (job_of n.running actor ≡ None) × IsLawful o w n job
-AllowedIn o w n (Done actor e) = (n.faulted ≡ None) × IsSomeAnd (job_of n.running actor) (λ j. IsOutcome o w n j e)
+AllowedIn o w n (Begin actor job) =
+    (n.faulted ≡ None) × (job_of n.running actor ≡ None) × IsLawful o w n job
+AllowedIn o w n (Done actor e) =
+    (n.faulted ≡ None) × IsSomeAnd (job_of n.running actor) (λ j. IsOutcome o w n j e)
 AllowedIn o w n (Short actor cause bytes) =
     IsSomeAnd (job_of n.running actor) (λ j. bytes ≤ total (table_length o) (outcome o w n j))
 AllowedIn o w n JournalFault = n.faulted ≡ None
@@ -55,7 +58,8 @@ AllowedIn o w n (Stop m e) = (is_boundary m w.batches ≡ true) × (n.stable ≤
 -- what the event needs: an opening comes where no session is open, every other event within one
 abbrev pub Allowed : Column → Standing → Option Session → Event → Type 0
 Allowed o w None (Opened session log) =
-    (fits o w.tree.shape (Open session log) ≡ true) × (session ≡ suc w.tree.shape.session) × (session ≤ 8388607)
+    (fits o w.tree.shape (Open session log) ≡ true) × (session ≡ suc w.tree.shape.session)
+    × (session ≤ 8388607)
 Allowed o w None e = ⊥
 Allowed o w (Some n) e = AllowedIn o w n e
 
@@ -64,7 +68,8 @@ abbrev pub IsLegal : Column → Standing → List Event → Type 0
 IsLegal o w [] = ⊤
 IsLegal o w (e ∷ es) = Allowed o w w.session e × IsLegal o (step o w e) es
 
--- a base from which histories go on: a legal record and batches of its sessions; where contents are known, the record is true of them
+-- a base from which histories go on: a legal record and batches of its sessions; where contents are
+-- known, the record is true of them
 pub record IsBase (told : Bool) (o : Column) (bs : Batches) (r : Record) : Type 0 where
   pub legal : is_legal_record o r ≡ true
   pub sessions : session_of (last_number bs) ≤ (shape_of o r).session

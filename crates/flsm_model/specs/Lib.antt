@@ -22,10 +22,11 @@ pub mod Undisturbed
 pub mod Made
 pub mod Picking
 pub mod Settled
-pub mod Told
+pub mod Fields
 pub mod Sound
 pub mod Fronts
 pub mod Settling
 pub mod LastLevel
 pub mod Picked
 pub mod Contents
+pub mod Candidates

@@ -57,22 +57,30 @@ attempts_of o w n (r ∷ rs) = attempt o w n r.1 ∷ attempts_of o w n rs
 
 -- ---- edits
 
--- the edit has the job's kind, level, keys, inputs, floor and `whole`; a flush goes up to the frozen mark and names the log in use
+-- the edit has the job's kind, level, keys, inputs, floor and `whole`; a flush goes up to the
+-- frozen mark and names the log in use
 abbrev pub IsEditOf : JobKind → Session → Job → Edit → Type 0
-IsEditOf FlushJob n j (Flush row from to log chosen) = (n.frozen ≡ Some to) × (log ≡ n.log + n.freezes)
-IsEditOf MoveJob n j (Move level floor inputs outputs) = (level ≡ j.level) × (floor ≡ j.floor) × (inputs ≡ j.inputs)
-IsEditOf CutJob n j (Cut level keys inputs outputs) = (level ≡ j.level) × (keys ≡ j.keys) × (inputs ≡ j.inputs)
-IsEditOf MergeJob n j (Merge floor whole inputs outputs) = (floor ≡ j.floor) × (whole ≡ j.whole) × (inputs ≡ j.inputs)
+IsEditOf FlushJob n j (Flush row from to log chosen) =
+    (n.frozen ≡ Some to) × (log ≡ n.log + n.freezes)
+IsEditOf MoveJob n j (Move level floor inputs outputs) =
+    (level ≡ j.level) × (floor ≡ j.floor) × (inputs ≡ j.inputs)
+IsEditOf CutJob n j (Cut level keys inputs outputs) =
+    (level ≡ j.level) × (keys ≡ j.keys) × (inputs ≡ j.inputs)
+IsEditOf MergeJob n j (Merge floor whole inputs outputs) =
+    (floor ≡ j.floor) × (whole ≡ j.whole) × (inputs ≡ j.inputs)
 IsEditOf k n j e = ⊥
 
--- the edit is one that the job may have made: it fits, its outputs lie in the job's range, and their numbers are the job's
+-- the edit is one that the job may have made: it fits, its outputs lie in the job's range, and
+-- their numbers are the job's
 pub record IsFormed (o : Column) (s : Shape) (n : Session) (j : Job) (e : Edit) : Type 0 where
   pub same : IsEditOf j.kind n j e
   pub fit : fits o s e ≡ true
   pub inside : list_all (lies_in (job_range j)) (outputs_of e) ≡ true
-  pub numbers : list_all (λ r. nat_le j.numbers r.number && nat_lt r.number (j.numbers + numbers_needed j)) (outputs_of e) ≡ true
+  pub numbers : list_all (λ r. nat_le j.numbers r.number
+      && nat_lt r.number (j.numbers + numbers_needed j)) (outputs_of e) ≡ true
 
--- the edit is what the job has made: where contents are known, its rows describe them, and a flush chooses their keys
+-- the edit is what the job has made: where contents are known, its rows describe them, and a flush
+-- chooses their keys
 pub record IsOutcome (o : Column) (w : Standing) (n : Session) (j : Job) (e : Edit) : Type 0 where
   pub formed : IsFormed o w.tree.shape n j e
   pub holds : w.told ≡ true → AllZip (Describes o) (outputs_of e) (contents o w.batches w.tree e)

@@ -11,7 +11,7 @@ use Rattle.flsm_model.specs.declared.edit.Edit.TheVariants.{Move}
 use Rattle.flsm_model.specs.Ranges.{range_of}
 use Rattle.flsm_model.specs.Shape.{Record, guards_at, has_number}
 use Rattle.flsm_model.specs.Fits.{lies_in, is_candidate, is_guard}
-use Rattle.flsm_model.specs.Trees.{Table, Tree, tree_of, installed}
+use Rattle.flsm_model.specs.Trees.{Table, Tree, tree_of, tree_after}
 use Rattle.flsm_model.specs.Writes.{copies_in}
 use Rattle.flsm_model.specs.TrueRecord.{Falls, IsTrueRecord}
 use Rattle.peb_base.specs.Members.{IsIn}
@@ -33,17 +33,20 @@ PlaceInGuards o w =
     (r : TableRow) → IsIn r w.tree.shape.live → 0 < r.level
     → lies_in (range_of (guards_at w.tree.shape r.level) r.smallest) r ≡ true
 
--- a Move finds each candidate of the next level that is the key of a put of its inputs among that level's guards
-abbrev pub CutBefore : Column → Tree → Edit → Type 0
-CutBefore o t (Move level floor inputs outputs) =
-    (u : Table) (x : Entry) → IsIn u t.tables → has_number u.row.number inputs ≡ true → IsIn x u.entries → is_put x.change ≡ true
-    → is_candidate o t.shape (suc level) x.key ≡ true → is_guard t.shape (suc level) x.key ≡ true
-CutBefore o t e = ⊤
+-- a Move finds each candidate of the next level that is the key of a put of its inputs among that
+-- level's guards
+abbrev pub CutBefore : Tree → Edit → Type 0
+CutBefore t (Move level floor inputs outputs) =
+    (u : Table) (x : Entry) → IsIn u t.tables → has_number u.row.number inputs ≡ true
+    → IsIn x u.entries → is_put x.change ≡ true
+    → is_candidate t.shape.chosen (suc level) x.key ≡ true
+    → is_guard t.shape (suc level) x.key ≡ true
+CutBefore t e = ⊤
 
 -- each of the edits does
 abbrev pub CutBeforeFrom : Column → Batches → Tree → Record → Type 0
 CutBeforeFrom o bs t [] = ⊤
-CutBeforeFrom o bs t (e ∷ es) = CutBefore o t e × CutBeforeFrom o bs (installed o bs t e) es
+CutBeforeFrom o bs t (e ∷ es) = CutBefore t e × CutBeforeFrom o bs (tree_after o bs t e) es
 
 -- each Move since the base found its candidates cut
 pub record MovesAreCut (o : Column) (r : Record) (w : Standing) : Type 0 where
@@ -54,5 +57,6 @@ pub record MovesAreCut (o : Column) (r : Record) (w : Standing) : Type 0 where
 -- so it is after every legal history over a true base
 abbrev pub AlwaysCut : Type 0
 AlwaysCut =
-    (p : Profile) (bs : Batches) (r : Record) (h : List Event) → IsTrueRecord (column p) r bs → IsLegal (column p) (base true (column p) bs r) h
+    (p : Profile) (bs : Batches) (r : Record) (h : List Event) → IsTrueRecord (column p) r bs
+    → IsLegal (column p) (base true (column p) bs r) h
     → MovesAreCut (column p) r (run (column p) (base true (column p) bs r) h)

@@ -1,4 +1,5 @@
--- Ranges of keys, and the guards that bound them. A range goes from its first key, inclusive, to its end, exclusive, if it has one.
+-- Ranges of keys, and the guards that bound them. A range goes from its first key, inclusive, to
+-- its end, exclusive, if it has one.
 use Rattle.std.specs.Prelude.{Bool, true, ◌&&◌, drop, if◌then◌else◌, List, [], ◌∷◌, Option, Some, None}
 use Rattle.std.specs.List.{list_any, list_all, zip}
 use Rattle.peb_base.specs.Keys.{Bytes, key_lt, key_le, key_eq}
@@ -36,7 +37,8 @@ first_of (k ∷ ks) = k
 -- the guards with one more among them, in order
 abbrev pub with_key : Bytes → List Bytes → List Bytes
 with_key k [] = k ∷ []
-with_key k (g ∷ gs) = if key_lt k g then k ∷ g ∷ gs else if key_eq k g then g ∷ gs else g ∷ with_key k gs
+with_key k (g ∷ gs) =
+    if key_lt k g then k ∷ g ∷ gs else if key_eq k g then g ∷ gs else g ∷ with_key k gs
 
 -- the guards with these keys among them
 abbrev pub with_keys : List Bytes → List Bytes → List Bytes
@@ -48,6 +50,7 @@ abbrev pub range_after : Bytes → List Bytes → Bytes → Bytes × Option Byte
 range_after lo [] key = (lo, None)
 range_after lo (k ∷ ks) key = if key_lt key k then (lo, Some k) else range_after k ks key
 
--- the range of the guard that has the key: from the greatest guard at or below it, or the empty string, to the next guard
+-- the range of the guard that has the key: from the greatest guard at or below it, or the empty
+-- string, to the next guard
 abbrev pub range_of : List Bytes → Bytes → Bytes × Option Bytes
 range_of guards key = range_after [] guards key

@@ -24,9 +24,13 @@ pub record InMemory (bs : Batches) (to : ℕ) (x : Entry) : Type 0 where
 abbrev pub MapHolds : Column → Standing → Type 0
 MapHolds o w =
     (n : Session) → w.session ≡ Some n → (m : ℕ) → IsRead w n m
-    → SamePuts (λ x. Live w.tree x ⊎ InMemory w.batches w.tree.shape.to x) (λ x. IsIn x (entries_of w.batches)) m
+    → SamePuts (λ x. Live w.tree x ⊎ InMemory w.batches w.tree.shape.to x)
+    (λ x. IsIn x (entries_of w.batches)) m
 
--- the live tables show the map at the last flush; with the memtables they show it at each number that is read
+-- the live tables show the map at the last flush; with the memtables they show it at each number
+-- that is read
 pub record MapShows (o : Column) (w : Standing) : Type 0 where
   pub flushed : shown (all_entries w.tree.tables) w.tree.shape.to ≡ map_at w.batches w.tree.shape.to
-  pub read : (n : Session) → w.session ≡ Some n → (m : ℕ) → IsRead w n m → shown (all_entries w.tree.tables ++ in_memory w.batches w.tree.shape.to) m ≡ map_at w.batches m
+  pub read : (n : Session) → w.session ≡ Some n → (m : ℕ) → IsRead w n m
+      → shown (all_entries w.tree.tables ++ in_memory w.batches w.tree.shape.to) m
+      ≡ map_at w.batches m

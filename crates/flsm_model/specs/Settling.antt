@@ -1,7 +1,5 @@
 -- How much there is to do until the store is settled.
-use Rattle.std.specs.Prelude.{◌≡◌, ℕ, zero, suc, ◌+◌, ◌*◌, ◌<◌, ◌≤◌, true, ◌&&◌, not, if◌then◌else◌, List, [], ◌∷◌, ◌++◌, length, nat_lt, ◌==◌, ◌⊎◌, ⊤, Some}
-use Rattle.peb_base.specs.Keys.{Bytes}
-use Rattle.peb_base.specs.Choice.{meets}
+use Rattle.std.specs.Prelude.{◌≡◌, ℕ, zero, suc, ◌+◌, ◌*◌, ◌<◌, ◌≤◌, true, ◌&&◌, not, if◌then◌else◌, List, [], ◌∷◌, ◌++◌, length, nat_lt, nat_le, ◌==◌, ◌⊎◌, ⊤, Some}
 use Rattle.peb_base.specs.Members.{IsIn}
 use Rattle.peb_base.specs.Profiles.{column, Column}
 use Rattle.peb_base.specs.declared.profile.Profile.{Profile}
@@ -27,31 +25,37 @@ entries_in rows = total (λ (r : TableRow). r.entries) rows
 
 -- the entries of the rows above the level
 abbrev pub entries_above : ℕ → List TableRow → ℕ
-entries_above level rows = total (λ (r : TableRow). if nat_lt r.level level then r.entries else 0) rows
+entries_above level rows =
+    total (λ (r : TableRow). if nat_lt r.level level then r.entries else 0) rows
 
--- the levels that entries have still to go: a frozen entry one more than the last level's number, one of a live table those below its own
+-- the levels that entries have still to go: a frozen entry one more than the last level's number,
+-- one of a live table those below its own
 abbrev pub levels_to_go : Column → ℕ → Shape → ℕ
 levels_to_go o frozen s = sum_to (λ level. frozen + entries_above level s.live) o.last_level
 
--- at how many levels from 1 up to this one the key is wanted as a guard and is none
-abbrev pub levels_open : Column → Shape → Bytes → ℕ → ℕ
-levels_open o s key zero = 0
-levels_open o s key (suc level) = one_if (meets o (suc level) key && not (is_guard s (suc level) key)) + levels_open o s key level
+-- at how many levels from 1 up to this one the chosen key is a candidate and no guard
+abbrev pub levels_open : Shape → Chosen → ℕ → ℕ
+levels_open s c zero = 0
+levels_open s c (suc level) =
+    one_if (nat_le c.level (suc level) && not (is_guard s (suc level) c.key))
+    + levels_open s c level
 
 -- the candidates that are not committed, counted per level
 abbrev pub uncommitted : Column → Shape → ℕ
-uncommitted o s = total (λ (c : Chosen). levels_open o s c.key o.last_level) s.chosen
+uncommitted o s = total (λ (c : Chosen). levels_open s c o.last_level) s.chosen
 
 -- the tables of the last level among these
 abbrev pub last_tables : Column → List TableRow → ℕ
 last_tables o rows = total (λ (r : TableRow). one_if (r.level == o.last_level)) rows
 
--- there is less to do, by these three in this order of weight; the numbers are those of the frozen entries
+-- there is less to do, by these three in this order of weight; the numbers are those of the frozen
+-- entries
 abbrev pub Lessens : Column → ℕ → Shape → ℕ → Shape → Type 0
 Lessens o f s f2 s2 =
     (levels_to_go o f2 s2 < levels_to_go o f s)
     ⊎ (((levels_to_go o f2 s2 ≤ levels_to_go o f s) × (uncommitted o s2 < uncommitted o s))
-    ⊎ ((levels_to_go o f2 s2 ≤ levels_to_go o f s) × (uncommitted o s2 ≤ uncommitted o s) × (last_tables o s2.live < last_tables o s.live)))
+    ⊎ ((levels_to_go o f2 s2 ≤ levels_to_go o f s) × (uncommitted o s2 ≤ uncommitted o s)
+    × (last_tables o s2.live < last_tables o s.live)))
 
 -- how many entries an edit takes: a Flush the frozen ones, others those of their inputs
 abbrev pub entries_taken : Shape → ℕ → Edit → ℕ
@@ -75,15 +79,19 @@ HasWork o s frozen (Flush row from to log chosen) = 0 < frozen
 HasWork o s frozen (Open session log) = ⊥
 HasWork o s frozen (Move level floor inputs outputs) = ⊤
 HasWork o s frozen (Cut level keys inputs outputs) = ⊤
-HasWork o s frozen (Merge floor whole inputs outputs) = 2 ≤ last_tables o (rows_numbered inputs s.live)
+HasWork o s frozen (Merge floor whole inputs outputs) =
+    2 ≤ last_tables o (rows_numbered inputs s.live)
 
--- an edit of a legal record that has work, and writes no more entries than it takes, leaves less to do
+-- an edit of a legal record that has work, and writes no more entries than it takes, leaves less to
+-- do
 abbrev pub EditsSettle : Type 0
 EditsSettle =
-    (p : Profile) (r : Record) (e : Edit) (frozen : ℕ) → is_legal_record (column p) (r ++ e ∷ []) ≡ true
+    (p : Profile) (r : Record) (e : Edit) (frozen : ℕ)
+    → is_legal_record (column p) (r ++ e ∷ []) ≡ true
     → HasWork (column p) (shape_of (column p) r) frozen e
     → entries_in (outputs_of e) ≤ entries_taken (shape_of (column p) r) frozen e
-    → Lessens (column p) frozen (shape_of (column p) r) (frozen_after frozen e) (shape_of (column p) (r ++ e ∷ []))
+    → Lessens (column p) frozen (shape_of (column p) r) (frozen_after frozen e)
+    (shape_of (column p) (r ++ e ∷ []))
 
 -- the three as one number, where the second is at most P and the third at most E
 abbrev pub measure : ℕ → ℕ → ℕ → ℕ → ℕ → ℕ
@@ -92,16 +100,19 @@ measure P E a b c = (a * suc P + b) * suc E + c
 -- where there is less to do, the number falls
 abbrev pub MeasureFalls : Type 0
 MeasureFalls =
-    (o : Column) (f f2 : ℕ) (s s2 : Shape) (P E : ℕ) → uncommitted o s2 ≤ P → last_tables o s2.live ≤ E → Lessens o f s f2 s2
+    (o : Column) (f f2 : ℕ) (s s2 : Shape) (P E : ℕ) → uncommitted o s2 ≤ P
+    → last_tables o s2.live ≤ E → Lessens o f s f2 s2
     → measure P E (levels_to_go o f2 s2) (uncommitted o s2) (last_tables o s2.live)
     < measure P E (levels_to_go o f s) (uncommitted o s) (last_tables o s.live)
 
 -- how many entries are frozen
 abbrev pub entries_frozen : Standing → Session → ℕ
-entries_frozen w n = total (λ (es : List Entry). length es) (frozen_entries w.batches w.tree.shape.to n.frozen)
+entries_frozen w n =
+    total (λ (es : List Entry). length es) (frozen_entries w.batches w.tree.shape.to n.frozen)
 
 -- the outcome of a job in flight has no more entries than the job takes
 abbrev pub OutcomesConserve : Column → Standing → Type 0
 OutcomesConserve o w =
-    (n : Session) → w.session ≡ Some n → (r : Running) → IsIn r n.running → (e : Edit) → IsOutcome o w n r.1 e
+    (n : Session) → w.session ≡ Some n → (r : Running) → IsIn r n.running → (e : Edit)
+    → IsOutcome o w n r.1 e
     → entries_in (outputs_of e) ≤ entries_taken w.tree.shape (entries_frozen w n) e

@@ -26,7 +26,16 @@ pub record Shape : Type 0 where
 -- before the first edit
 abbrev pub empty_shape : Column → Shape
 empty_shape o =
-    record { session = 0; to = 0; log = 1; used = []; chosen = []; guards = replicate o.last_level []; live = [] }
+    record {
+      session = 0;
+      to = 0;
+      log = 1;
+      used = [];
+      chosen = [];
+      guards = replicate o.last_level
+          [];
+      live = [];
+    }
 
 -- the guards of a level; level 0 has none, so all keys are in one range there
 abbrev pub guards_at : Shape → ℕ → List Bytes
@@ -68,25 +77,33 @@ outputs_of (Merge floor whole inputs outputs) = outputs
 -- the shape after inputs are taken away and outputs added
 abbrev pub after_exchange : Shape → List ℕ → List TableRow → Shape
 after_exchange s inputs outputs =
-    record s { used = s.used ++ map (λ r. r.number) outputs; live = rows_without inputs s.live ++ outputs }
+    record s {
+      used = s.used ++ map (λ r. r.number) outputs;
+      live = rows_without inputs s.live ++ outputs;
+    }
 
 -- the shape after the inputs of an edit are taken away and its outputs added
-abbrev pub exchanged : Shape → Edit → Shape
-exchanged s e = after_exchange s (inputs_of e) (outputs_of e)
+abbrev pub exchange_of : Shape → Edit → Shape
+exchange_of s e = after_exchange s (inputs_of e) (outputs_of e)
 
 -- the shape after an edit
-abbrev pub grown : Shape → Edit → Shape
-grown s (Open session log) = record s { session = session; used = [] }
-grown s (Flush row from to log chosen) =
-    record (exchanged s (Flush row from to log chosen)) { to = to; log = log; chosen = s.chosen ++ chosen }
-grown s (Cut level keys inputs outputs) =
-    record (exchanged s (Cut level keys inputs outputs)) { guards = set s.guards (level - 1) (with_keys keys (guards_at s level)) }
-grown s e = exchanged s e
+abbrev pub shape_after : Shape → Edit → Shape
+shape_after s (Open session log) = record s { session = session; used = [] }
+shape_after s (Flush row from to log chosen) =
+    record (exchange_of s (Flush row from to log chosen)) {
+      to = to;
+      log = log;
+      chosen = s.chosen ++ chosen;
+    }
+shape_after s (Cut level keys inputs outputs) =
+    record (exchange_of s (Cut level keys inputs outputs))
+    { guards = set s.guards (level - 1) (with_keys keys (guards_at s level)) }
+shape_after s e = exchange_of s e
 
 -- the shape after further edits
 abbrev pub shape_from : Shape → Record → Shape
 shape_from s [] = s
-shape_from s (e ∷ es) = shape_from (grown s e) es
+shape_from s (e ∷ es) = shape_from (shape_after s e) es
 
 -- the shape of a record
 abbrev pub shape_of : Column → Record → Shape

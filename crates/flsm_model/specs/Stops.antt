@@ -20,13 +20,15 @@ pub record RecordIsLegal (o : Column) (w : Standing) : Type 0 where
 
 -- the record ends with what the open session added after its opening
 abbrev pub EndsWithSession : Column → Standing → Type 0
-EndsWithSession o w = (n : Session) → w.session ≡ Some n → (before : Record) × (w.edits ≡ before ++ n.edits_made)
+EndsWithSession o w =
+    (n : Session) → w.session ≡ Some n → (before : Record) × (w.edits ≡ before ++ n.edits_made)
 
 -- the next session may be opened, with any log from the last flush's to the session's first
 pub record OpensNext (o : Column) (w : Standing) : Type 0 where
   pub least : 1 ≤ w.tree.shape.log
   pub room : w.tree.shape.log ≤ w.tree.shape.session * 2 ^ 41 + 1
-  pub opens : (log : ℕ) → w.tree.shape.log ≤ log → log ≤ w.tree.shape.session * 2 ^ 41 + 1 → w.tree.shape.session < 8388607
+  pub opens : (log : ℕ) → w.tree.shape.log ≤ log → log ≤ w.tree.shape.session * 2 ^ 41 + 1
+      → w.tree.shape.session < 8388607
       → Allowed o w None (Opened (suc w.tree.shape.session) log)
 
 -- where no session is open stands a true base, from which the next session may be opened

@@ -9,7 +9,7 @@ use Rattle.peb_base.specs.declared.table_row.TableRow.{TableRow}
 use Rattle.peb_base.specs.Profiles.{Column}
 use Rattle.flsm_model.specs.declared.edit.Edit.{Edit}
 use Rattle.flsm_model.specs.declared.edit.Edit.TheVariants.{Open, Flush, Move, Cut, Merge}
-use Rattle.flsm_model.specs.Shape.{Record, Shape, empty_shape, guards_at, has_number, inputs_of, outputs_of, grown}
+use Rattle.flsm_model.specs.Shape.{Record, Shape, empty_shape, guards_at, has_number, inputs_of, outputs_of, shape_after}
 
 -- a sorted table: its row and its entries
 pub record Table : Type 0 where
@@ -42,10 +42,14 @@ merged tables inputs = in_order (flat_map (content_of tables) inputs)
 -- what the outputs of an edit hold, in their order
 abbrev pub contents : Column → Batches → Tree → Edit → List (List Entry)
 contents o bs t (Open session log) = []
-contents o bs t (Flush row from to log chosen) = in_order (entries_between from to (entries_of bs)) ∷ []
-contents o bs t (Move level floor inputs outputs) = pieces (kept (merged t.tables inputs) floor false) (guards_at t.shape (suc level))
-contents o bs t (Cut level keys inputs outputs) = flat_map (λ n. pieces (content_of t.tables n) keys) inputs
-contents o bs t (Merge floor whole inputs outputs) = some_entries (kept (merged t.tables inputs) floor whole)
+contents o bs t (Flush row from to log chosen) =
+    in_order (entries_between from to (entries_of bs)) ∷ []
+contents o bs t (Move level floor inputs outputs) =
+    pieces (kept (merged t.tables inputs) floor false) (guards_at t.shape (suc level))
+contents o bs t (Cut level keys inputs outputs) =
+    flat_map (λ n. pieces (content_of t.tables n) keys) inputs
+contents o bs t (Merge floor whole inputs outputs) =
+    some_entries (kept (merged t.tables inputs) floor whole)
 
 -- rows with their contents
 abbrev pub paired : List TableRow → List (List Entry) → List Table
@@ -71,14 +75,17 @@ abbrev pub tables_without : List ℕ → List Table → List Table
 tables_without ns ts = filter (λ t. not (has_number t.row.number ns)) ts
 
 -- the tree after an edit
-abbrev pub installed : Column → Batches → Tree → Edit → Tree
-installed o bs t e =
-    record { shape = grown t.shape e; tables = tables_without (inputs_of e) t.tables ++ written_by o bs t e }
+abbrev pub tree_after : Column → Batches → Tree → Edit → Tree
+tree_after o bs t e =
+    record {
+      shape = shape_after t.shape e;
+      tables = tables_without (inputs_of e) t.tables ++ written_by o bs t e;
+    }
 
 -- the tree after further edits
 abbrev pub tree_from : Column → Batches → Tree → Record → Tree
 tree_from o bs t [] = t
-tree_from o bs t (e ∷ es) = tree_from o bs (installed o bs t e) es
+tree_from o bs t (e ∷ es) = tree_from o bs (tree_after o bs t e) es
 
 -- the tree of a record over batches
 abbrev pub tree_of : Column → Batches → Record → Tree

@@ -5,7 +5,7 @@ use Rattle.peb_base.specs.Numbers.{session_of}
 use Rattle.peb_base.specs.Members.{IsIn}
 use Rattle.peb_base.specs.Batches.{Batches, are_in_order, last_number, is_boundary, entries_of}
 use Rattle.flsm_model.specs.Compaction.{is_put}
-use Rattle.flsm_model.specs.Trees.{Describes, Table, Tree, empty_tree, contents, installed, tree_of}
+use Rattle.flsm_model.specs.Trees.{Describes, Table, Tree, empty_tree, contents, tree_after, tree_of}
 use Rattle.peb_base.specs.declared.entry.Entry.{Entry}
 use Rattle.peb_base.specs.Profiles.{Column}
 use Rattle.flsm_model.specs.Shape.{Record, shape_of, outputs_of}
@@ -16,7 +16,8 @@ use Rattle.flsm_model.specs.Choices.{Chooses}
 
 -- where both hold an entry of a key, the first table's is the newer one
 abbrev pub Newer : Table → Table → Type 0
-Newer t u = (x y : Entry) → IsIn x t.entries → IsIn y u.entries → x.key ≡ y.key → y.number < x.number
+Newer t u =
+    (x y : Entry) → IsIn x t.entries → IsIn y u.entries → x.key ≡ y.key → y.number < x.number
 
 -- a key's numbers fall from each level to every deeper one
 pub record Falls (ts : List Table) : Type 0 where
@@ -47,11 +48,13 @@ pub record Flushed (bs : Batches) (to : ℕ) (x : Entry) : Type 0 where
 
 -- ---- records
 
--- the outputs of each edit are as many as their contents and described by them, and each flush chooses its keys
+-- the outputs of each edit are as many as their contents and described by them, and each flush
+-- chooses its keys
 abbrev pub DescribedFrom : Column → Batches → Tree → Record → Type 0
 DescribedFrom o bs t [] = ⊤
 DescribedFrom o bs t (e ∷ es) =
-    AllZip (Describes o) (outputs_of e) (contents o bs t e) × Chooses o bs t e × DescribedFrom o bs (installed o bs t e) es
+    AllZip (Describes o) (outputs_of e) (contents o bs t e) × Chooses o bs t e
+    × DescribedFrom o bs (tree_after o bs t e) es
 
 -- the record is true of the batches
 pub record IsTrueRecord (o : Column) (r : Record) (bs : Batches) : Type 0 where
@@ -61,4 +64,5 @@ pub record IsTrueRecord (o : Column) (r : Record) (bs : Batches) : Type 0 where
   pub boundary : is_boundary (shape_of o r).to bs ≡ true
   pub described : DescribedFrom o bs (empty_tree o) r
   pub falls : Falls (tree_of o bs r).tables
-  pub map : SamePuts (Live (tree_of o bs r)) (Flushed bs (tree_of o bs r).shape.to) (tree_of o bs r).shape.to
+  pub map : SamePuts (Live (tree_of o bs r)) (Flushed bs (tree_of o bs r).shape.to)
+      (tree_of o bs r).shape.to

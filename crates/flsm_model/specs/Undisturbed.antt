@@ -16,8 +16,10 @@ use Rattle.flsm_model.specs.Jobs.{numbers_needed, IsRange, guards_in, job_range}
 
 -- the job's block of table numbers is of the session, and no row has one of them
 pub record NumbersFree (s : Shape) (j : Job) : Type 0 where
-  pub own : (m : ℕ) → j.numbers ≤ m → m < j.numbers + numbers_needed j → is_of_session s.session m ≡ true
-  pub unused : (m : ℕ) → j.numbers ≤ m → m < j.numbers + numbers_needed j → has_number m s.used ≡ false
+  pub own :
+      (m : ℕ) → j.numbers ≤ m → m < j.numbers + numbers_needed j → is_of_session s.session m ≡ true
+  pub unused :
+      (m : ℕ) → j.numbers ≤ m → m < j.numbers + numbers_needed j → has_number m s.used ≡ false
 
 -- of a Flush: no inputs, and all keys
 pub record KeepsFlush (j : Job) : Type 0 where
@@ -31,15 +33,18 @@ pub record KeepsMove (o : Column) (s : Shape) (j : Job) : Type 0 where
   pub some : is_some_list j.inputs ≡ true
   pub keys : j.keys ≡ guards_in s (suc j.level) (job_range j)
 
--- of a Cut: its keys are candidates of its range and no guards yet, and its inputs are the tables that they split
+-- of a Cut: its keys are candidates of its range and no guards yet, and its inputs are the tables
+-- that they split
 pub record KeepsCut (o : Column) (s : Shape) (j : Job) : Type 0 where
   pub from : 1 ≤ j.level
   pub upto : j.level ≤ o.last_level
   pub ascend : keys_ascend j.keys ≡ true
   pub some : is_some_list j.keys ≡ true
   pub keys : list_all (may_be_cut o s j.level (job_range j)) j.keys ≡ true
-  pub straddled : list_all (λ r. list_any (straddles r) j.keys) (rows_numbered j.inputs s.live) ≡ true
-  pub others : list_all (λ r. not (is_straddled j.level (job_range j) j.keys r)) (rows_without j.inputs s.live) ≡ true
+  pub straddled :
+      list_all (λ r. list_any (straddles r) j.keys) (rows_numbered j.inputs s.live) ≡ true
+  pub others : list_all (λ r. not (is_straddled j.level (job_range j) j.keys r))
+      (rows_without j.inputs s.live) ≡ true
 
 -- of a Merge: it has inputs, at the last level
 pub record KeepsMerge (o : Column) (j : Job) : Type 0 where
@@ -58,13 +63,16 @@ pub record Undisturbed (o : Column) (s : Shape) (j : Job) : Type 0 where
   pub range : IsRange s j.level j
   pub ascend : numbers_ascend j.inputs ≡ true
   pub live : list_all (is_live s) j.inputs ≡ true
-  pub placed : list_all (λ r. r.level == j.level && lies_in (job_range j) r) (rows_numbered j.inputs s.live) ≡ true
+  pub placed :
+      list_all (λ r. r.level == j.level && lies_in (job_range j) r) (rows_numbered j.inputs s.live)
+      ≡ true
   pub numbers : NumbersFree s j
   pub kind : KeepsKind j.kind o s j
 
 -- no claims of two jobs in flight conflict, and none of the jobs is disturbed
 pub record JobsStand (o : Column) (w : Standing) (n : Session) : Type 0 where
-  pub apart : (r t : Running) → IsIn r n.running → IsIn t n.running → r.0 ≢ t.0 → jobs_conflict r.1 t.1 ≡ false
+  pub apart : (r t : Running) → IsIn r n.running → IsIn t n.running → r.0 ≢ t.0
+      → jobs_conflict r.1 t.1 ≡ false
   pub each : (r : Running) → IsIn r n.running → Undisturbed o w.tree.shape r.1
 
 -- so it is while a session is open

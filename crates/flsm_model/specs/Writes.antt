@@ -1,4 +1,5 @@
--- How often an entry is written into a level, and how often a new guard falls into a table that holds it. Its number names an entry.
+-- How often an entry is written into a level, and how often a new guard falls into a table that
+-- holds it. Its number names an entry.
 use Rattle.std.specs.Prelude.{ℕ, ◌+◌, Bool, true, false, ◌&&◌, if◌then◌else◌, List, [], ◌∷◌, nat_lt, ◌==◌}
 use Rattle.std.specs.List.{list_any}
 use Rattle.peb_base.specs.Batches.{Batches}
@@ -8,7 +9,7 @@ use Rattle.peb_base.specs.Profiles.{Column}
 use Rattle.flsm_model.specs.declared.edit.Edit.{Edit}
 use Rattle.flsm_model.specs.declared.edit.Edit.TheVariants.{Cut}
 use Rattle.flsm_model.specs.Shape.{Record}
-use Rattle.flsm_model.specs.Trees.{Table, Tree, written_by, tables_numbered, installed}
+use Rattle.flsm_model.specs.Trees.{Table, Tree, written_by, tables_numbered, tree_after}
 
 -- the entry numbered q is among these
 abbrev pub holds : ℕ → List Entry → Bool
@@ -48,16 +49,19 @@ writes o bs t q level e = tables_holding q level (written_by o bs t e)
 abbrev pub cuts_of : Tree → ℕ → ℕ → Edit → ℕ
 cuts_of t q level (Cut l keys inputs outputs) =
     if l == level
-    then total (λ x. if holds q x.entries then total (λ k. one_if (straddles x.row k)) keys else 0) (tables_numbered inputs t.tables)
+    then total (λ x. if holds q x.entries then total (λ k. one_if (straddles x.row k)) keys else 0)
+    (tables_numbered inputs t.tables)
     else 0
 cuts_of t q level e = 0
 
 -- the writes of all edits
 abbrev pub writes_from : Column → Batches → Tree → ℕ → ℕ → Record → ℕ
 writes_from o bs t q level [] = 0
-writes_from o bs t q level (e ∷ es) = writes o bs t q level e + writes_from o bs (installed o bs t e) q level es
+writes_from o bs t q level (e ∷ es) =
+    writes o bs t q level e + writes_from o bs (tree_after o bs t e) q level es
 
 -- the cuts of all edits
 abbrev pub cuts_from : Column → Batches → Tree → ℕ → ℕ → Record → ℕ
 cuts_from o bs t q level [] = 0
-cuts_from o bs t q level (e ∷ es) = cuts_of t q level e + cuts_from o bs (installed o bs t e) q level es
+cuts_from o bs t q level (e ∷ es) =
+    cuts_of t q level e + cuts_from o bs (tree_after o bs t e) q level es

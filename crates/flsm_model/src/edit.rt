@@ -5,7 +5,8 @@ use peb_base::{Key, List, Number, TableRow};
 
 /// One step of the record that the manifest keeps: an opening, or what a job has done.
 ///
-/// Inputs are numbers of tables that are no longer live after the edit, outputs are the metadata of the tables that it adds.
+/// Inputs are numbers of tables that are no longer live after the edit, outputs are the metadata of
+/// the tables that it adds.
 #[derive(Debug, Drop)]
 pub enum Edit {
     /// An opening of the store, and its first log.
@@ -13,8 +14,9 @@ pub enum Edit {
         session: u64,
         log: u64,
     },
-    /// The frozen memtable became a table of level 0: the entries numbered above `from` and at most `to`. Logs below `log` aren't needed
-    /// any more. The chosen keys are new candidates for guards.
+    /// The frozen memtable became a table of level 0: the entries numbered above `from` and at most
+    /// `to`. Logs below `log` aren't needed any more. The chosen keys are new candidates for
+    /// guards.
     Flush {
         row: TableRow,
         from: Number,
@@ -29,14 +31,16 @@ pub enum Edit {
         inputs: List<u64>,
         outputs: List<TableRow>,
     },
-    /// The keys became guards of `level`, and each table that one of them splits was rewritten in pieces.
+    /// The keys became guards of `level`, and each table that one of them splits was rewritten in
+    /// pieces.
     Cut {
         level: u8,
         keys: List<Key>,
         inputs: List<u64>,
         outputs: List<TableRow>,
     },
-    /// A compaction within a guard of the last level. It was `whole` where it took all tables that the guard had when it began.
+    /// A compaction within a guard of the last level. It was `whole` where it took all tables that
+    /// the guard had when it began.
     Merge {
         floor: Number,
         whole: bool,

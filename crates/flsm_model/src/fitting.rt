@@ -4,13 +4,12 @@ ghost use Rattle.std.specs.Prelude.{◌≡◌, ℕ, Bool, ◌==◌, ◌&&◌, �
 ghost use Rattle.std.specs.Option.{option_copied};
 ghost use Rattle.std.specs.List.{list_all, list_any};
 ghost use Rattle.peb_base.specs.Profiles.{column};
-ghost use Rattle.peb_base.specs.Choice as choice;
 ghost use Rattle.flsm_model.specs.Shape as shapes;
 ghost use Rattle.peb_base.specs.Keys.{key_lt};
 ghost use Rattle.flsm_model.specs.Ranges as ranges;
 ghost use Rattle.flsm_model.specs.Compaction as compaction;
 ghost use Rattle.flsm_model.specs.Fits as fits;
-ghost use Rattle.flsm_model.specs.Told.{told};
+ghost use Rattle.flsm_model.specs.Fields.{fields_of};
 ghost use Rattle.flsm_model.specs.declared.edit.Edit.TheVariants as edits;
 
 use crate::chosen::Chosen;
@@ -22,10 +21,10 @@ use crate::rows::{
     is_some_list, is_straddled, lie_apart, lie_in, numbers_differ,
 };
 use crate::searches::{
-    has_key, has_number, is_chosen, is_live, keys_ascend, numbers_ascend, rows_ascend,
+    has_key, has_number, is_candidate, is_chosen, is_live, keys_ascend, numbers_ascend, rows_ascend,
 };
 use crate::shape::Shape;
-use peb_base::{Key, Memory, TableRow, bits, level_of};
+use peb_base::{Key, Memory, TableRow, level_of};
 
 impl Shape {
     /// Whether the row is in its form and has a number of the session that isn't used.
@@ -39,7 +38,7 @@ impl Shape {
 
     /// Whether the tables of these numbers are live.
     fn are_live(&self, numbers: &[u64]) -> bool
-        ensures { result ≡ list_all (fits.is_live (told self.now)) numbers.now }
+        ensures { result ≡ list_all (fits.is_live (fields_of self.now)) numbers.now }
     {
         numbers
             .iter()
@@ -48,7 +47,8 @@ impl Shape {
 
     /// Whether the live tables of these numbers are at the level.
     fn inputs_are_at(&self, level: u8, inputs: &[u64]) -> bool
-        ensures { result ≡ list_all (λ row. row.level == level) (shapes.rows_numbered inputs.now self.now.live) }
+        ensures { result
+            ≡ list_all (λ row. row.level == level) (shapes.rows_numbered inputs.now self.now.live) }
     {
         self.live
             .items()
@@ -59,7 +59,9 @@ impl Shape {
 
     /// Whether the live tables of these numbers lie in the range.
     fn inputs_lie_in(&self, range: &Range, inputs: &[u64]) -> bool
-        ensures { result ≡ list_all (fits.lies_in (range.now.lo.now, option_copied range.now.hi)) (shapes.rows_numbered inputs.now self.now.live) }
+        ensures { result
+            ≡ list_all (fits.lies_in (range.now.lo.now, option_copied range.now.hi))
+            (shapes.rows_numbered inputs.now self.now.live) }
     {
         self.live
             .items()
@@ -70,7 +72,8 @@ impl Shape {
 
     /// The range of the guard in which the first input begins.
     fn input_range(&self, level: u8, inputs: &[u64]) -> Range
-        ensures { (result.lo.now, option_copied result.hi) ≡ fits.input_range (told self.now) level inputs.now }
+        ensures { (result.lo.now, option_copied result.hi)
+            ≡ fits.input_range (fields_of self.now) level inputs.now }
     {
         Range::of(
             self.guards_at(level as usize),
@@ -80,14 +83,16 @@ impl Shape {
 
     /// Whether the live tables of these numbers lie in one guard of the level.
     fn inputs_lie_together(&self, level: u8, inputs: &[u64]) -> bool
-        ensures { result ≡ list_all (fits.lies_in (fits.input_range (told self.now) level inputs.now)) (shapes.rows_numbered inputs.now self.now.live) }
+        ensures { result
+            ≡ list_all (fits.lies_in (fits.input_range (fields_of self.now) level inputs.now))
+            (shapes.rows_numbered inputs.now self.now.live) }
     {
         self.inputs_lie_in(&self.input_range(level, inputs), inputs)
     }
 
     /// Whether the tables of these numbers can be inputs at the level.
     fn are_inputs(&self, level: u8, inputs: &[u64]) -> bool
-        ensures { result ≡ fits.are_inputs (told self.now) level inputs.now }
+        ensures { result ≡ fits.are_inputs (fields_of self.now) level inputs.now }
     {
         if !numbers_ascend(inputs) || !is_some_list(inputs) {
             return false;
@@ -97,23 +102,13 @@ impl Shape {
             && self.inputs_lie_together(level, inputs)
     }
 
-    /// Whether the bits of the key meet the need of the level.
-    fn meets(&self, level: u8, key: &[u8]) -> bool
-        ensures { result ≡ choice.meets (column self.now.options.profile) level key.now }
-    {
-        let steps = (level as u32).saturating_sub(1);
-        self.options
-            .top_bits
-            .saturating_sub(self.options.decrement * steps)
-            <= bits(self.options.hash, key)
-    }
-
     /// Whether the key may be cut at the level.
     fn may_be_cut(&self, level: u8, range: &Range, key: &[u8]) -> bool
-        ensures { result ≡ fits.may_be_cut (column self.now.options.profile) (told self.now) level (range.now.lo.now, option_copied range.now.hi) key.now }
+        ensures { result
+            ≡ fits.may_be_cut (column self.now.options.profile) (fields_of self.now) level
+            (range.now.lo.now, option_copied range.now.hi) key.now }
     {
-        is_chosen(self.chosen.items(), key)
-            && self.meets(level, key)
+        is_candidate(self.chosen.items(), level, key)
             && range.has(key)
             && !has_key(key, self.guards_at(level as usize))
             && (level == self.options.last_level
@@ -122,7 +117,8 @@ impl Shape {
 
     /// Whether the key of a flush wasn't chosen before, and has its level.
     fn is_choice(&self, chosen: &Chosen) -> bool
-        ensures { result ≡ fits.is_choice (column self.now.options.profile) (told self.now) chosen.now }
+        ensures { result
+            ≡ fits.is_choice (column self.now.options.profile) (fields_of self.now) chosen.now }
     {
         let key = chosen.key.bytes();
         !is_chosen(self.chosen.items(), key)
@@ -134,14 +130,17 @@ impl Shape {
 
     /// Whether the keys of a flush ascend, weren't chosen before, and have their levels.
     fn are_choices(&self, chosen: &[Chosen]) -> bool
-        ensures { result ≡ fits.are_choices (column self.now.options.profile) (told self.now) chosen.now }
+        ensures { result
+            ≡ fits.are_choices (column self.now.options.profile) (fields_of self.now) chosen.now }
     {
         chosen_ascend(chosen) && self.each_is_choice(chosen)
     }
 
     /// Whether each of the keys wasn't chosen before, and has its level.
     fn each_is_choice(&self, chosen: &[Chosen]) -> bool
-        ensures { result ≡ list_all (fits.is_choice (column self.now.options.profile) (told self.now)) chosen.now }
+        ensures { result
+            ≡ list_all (fits.is_choice (column self.now.options.profile) (fields_of self.now))
+            chosen.now }
     {
         chosen.iter().all(|c| self.is_choice(c))
     }
@@ -162,7 +161,9 @@ impl Shape {
 
     /// Whether an opening fits.
     fn opens(&self, session: u64, log: u64) -> bool
-        ensures { result ≡ fits.fits (column self.now.options.profile) (told self.now) (edits.Open session log) }
+        ensures { result
+            ≡ fits.fits (column self.now.options.profile) (fields_of self.now)
+            (edits.Open session log) }
     {
         self.session < session
             && self.log <= log
@@ -172,7 +173,9 @@ impl Shape {
 
     /// Whether a flush fits.
     fn flushes(&self, row: &TableRow, from: u64, to: u64, log: u64, chosen: &[Chosen]) -> bool
-        ensures { result ≡ fits.fits (column self.now.options.profile) (told self.now) (edits.Flush row.now from to log chosen.now) }
+        ensures { result
+            ≡ fits.fits (column self.now.options.profile) (fields_of self.now)
+            (edits.Flush row.now from to log chosen.now) }
     {
         let session = self.session as u128;
         if from != self.to || to <= from || log <= self.log || log <= 1 {
@@ -187,10 +190,12 @@ impl Shape {
         self.are_choices(chosen) && self.are_new(std::slice::from_ref(row))
     }
 
-    /// Whether the rows can be outputs of a compaction into the level: at the level, in order, each new and in a guard of its own.
+    /// Whether the rows can be outputs of a compaction into the level: at the level, in order, each
+    /// new and in a guard of its own.
     fn outputs_fit(&self, level: usize, rows: &[TableRow]) -> bool
         ensures { result ≡ (list_all (λ row. row.level == level) rows.now && fits.rows_ascend rows.now
-            && fits.lie_apart (shapes.guards_at (told self.now) level) rows.now && fits.rows_are_new self.now.session self.now.used rows.now) }
+            && fits.lie_apart (shapes.guards_at (fields_of self.now) level) rows.now
+            && fits.rows_are_new self.now.session self.now.used rows.now) }
     {
         if !are_at(level, rows) || !rows_ascend(rows) {
             return false;
@@ -200,7 +205,10 @@ impl Shape {
 
     /// Whether a compaction of the level into the next one fits.
     fn moves(&self, level: u8, inputs: &[u64], outputs: &[TableRow]) -> bool
-        ensures { (floor : ℕ) → result ≡ fits.fits (column self.now.options.profile) (told self.now) (edits.Move level floor inputs.now outputs.now) }
+        ensures { (floor : ℕ)
+            → result
+            ≡ fits.fits (column self.now.options.profile) (fields_of self.now)
+            (edits.Move level floor inputs.now outputs.now) }
     {
         if level >= self.options.last_level || !self.are_inputs(level, inputs) {
             return false;
@@ -210,7 +218,10 @@ impl Shape {
 
     /// Whether a compaction within a guard of the last level fits.
     fn merges(&self, inputs: &[u64], outputs: &[TableRow]) -> bool
-        ensures { (floor : ℕ) (whole : Bool) → result ≡ fits.fits (column self.now.options.profile) (told self.now) (edits.Merge floor whole inputs.now outputs.now) }
+        ensures { (floor : ℕ) (whole : Bool)
+            → result
+            ≡ fits.fits (column self.now.options.profile) (fields_of self.now)
+            (edits.Merge floor whole inputs.now outputs.now) }
     {
         let last = self.options.last_level;
         if !self.are_inputs(last, inputs) || outputs.len() > 1 {
@@ -223,7 +234,9 @@ impl Shape {
 
     /// Whether each of the keys may be cut at the level.
     fn may_all_be_cut(&self, level: u8, range: &Range, keys: &[Key]) -> bool
-        ensures { result ≡ list_all (fits.may_be_cut (column self.now.options.profile) (told self.now) level (range.now.lo.now, option_copied range.now.hi)) keys.now }
+        ensures { result
+            ≡ list_all (fits.may_be_cut (column self.now.options.profile) (fields_of self.now) level
+            (range.now.lo.now, option_copied range.now.hi)) keys.now }
     {
         keys.iter()
             .all(|key| self.may_be_cut(level, range, key.bytes()))
@@ -231,7 +244,9 @@ impl Shape {
 
     /// Whether each live table of these numbers is one of the range that a key splits.
     fn inputs_are_split(&self, level: u8, range: &Range, keys: &[Key], inputs: &[u64]) -> bool
-        ensures { result ≡ list_all (fits.is_straddled level (range.now.lo.now, option_copied range.now.hi) keys.now) (shapes.rows_numbered inputs.now self.now.live) }
+        ensures { result
+            ≡ list_all (fits.is_straddled level (range.now.lo.now, option_copied range.now.hi)
+            keys.now) (shapes.rows_numbered inputs.now self.now.live) }
     {
         self.live
             .items()
@@ -242,7 +257,10 @@ impl Shape {
 
     /// Whether no other live table is one of the range that a key splits.
     fn others_are_whole(&self, level: u8, range: &Range, keys: &[Key], inputs: &[u64]) -> bool
-        ensures { result ≡ list_all (λ row. not (fits.is_straddled level (range.now.lo.now, option_copied range.now.hi) keys.now row)) (shapes.rows_without inputs.now self.now.live) }
+        ensures { result
+            ≡ list_all (λ row. not (fits.is_straddled level
+            (range.now.lo.now, option_copied range.now.hi) keys.now row))
+            (shapes.rows_without inputs.now self.now.live) }
     {
         self.live
             .items()
@@ -260,8 +278,10 @@ impl Shape {
         outputs: &[TableRow],
         guards: &[Key],
     ) -> bool
-        requires { guards.now ≡ ranges.with_keys keys.now (shapes.guards_at (told self.now) level) }
-        ensures { result ≡ fits.fits (column self.now.options.profile) (told self.now) (edits.Cut level keys.now inputs.now outputs.now) }
+        requires { guards.now ≡ ranges.with_keys keys.now (shapes.guards_at (fields_of self.now) level) }
+        ensures { result
+            ≡ fits.fits (column self.now.options.profile) (fields_of self.now)
+            (edits.Cut level keys.now inputs.now outputs.now) }
     {
         let range = Range::of(self.guards_at(level as usize), first_of(keys));
         if level < 1
@@ -287,7 +307,8 @@ impl Shape {
 
     /// Whether an edit fits the record whose shape this is.
     pub(crate) fn fits(&self, edit: &Edit) -> Result<bool, Memory>
-        ensures { IfOk result (λ fitting. fitting ≡ fits.fits (column self.now.options.profile) (told self.now) edit.now) }
+        ensures { IfOk result (λ fitting. fitting
+            ≡ fits.fits (column self.now.options.profile) (fields_of self.now) edit.now) }
     {
         match edit {
             Edit::Open { session, log } => Ok(self.opens(*session, *log)),

@@ -6,7 +6,7 @@ ghost use Rattle.flsm_model.specs.Ranges as ranges;
 ghost use Rattle.flsm_model.specs.Shape as shapes;
 ghost use Rattle.flsm_model.specs.Fits as fits;
 ghost use Rattle.flsm_model.specs.Fits.{GoesOn};
-ghost use Rattle.flsm_model.specs.Told.{told};
+ghost use Rattle.flsm_model.specs.Fields.{fields_of};
 
 use crate::chosen::Chosen;
 use crate::copying::{copy_all_chosen, copy_rows};
@@ -54,7 +54,8 @@ fn exchange_rows(
     numbers: &[u64],
     mut added: Vec<TableRow>,
 ) -> Result<(), Memory>
-    ensures ok { OnOk result (rows.new.items ≡ shapes.rows_without numbers.now rows.old.items ++ added.items) }
+    ensures ok { OnOk result (rows.new.items ≡ shapes.rows_without numbers.now rows.old.items
+        ++ added.items) }
     ensures err { OnErr result (rows.new.items ≡ rows.old.items) }
 {
     rows.reserve(added.len())?;
@@ -75,8 +76,11 @@ fn set_guards(guards: &mut Vec<List<Key>>, place: usize, keys: List<Key>)
 impl Shape {
     /// Puts the numbers of the rows behind those that are used. An error changes nothing.
     fn use_numbers(&mut self, rows: &[TableRow]) -> Result<(), Memory>
-        ensures ok { OnOk result (told self.new ≡ record (told self.old) { used = self.old.used ++ map (λ row. row.number) rows.now }) }
-        ensures err { OnErr result (told self.new ≡ told self.old) }
+        ensures ok { OnOk result (fields_of self.new
+            ≡ record (fields_of self.old) {
+              used = self.old.used ++ map (λ row. row.number) rows.now;
+            }) }
+        ensures err { OnErr result (fields_of self.new ≡ fields_of self.old) }
         ensures options { self.new.options ≡ self.old.options }
     {
         let alloc = self.alloc();
@@ -89,7 +93,7 @@ impl Shape {
 
     /// Keeps only the first of the numbers that are used.
     fn free_numbers(&mut self, length: usize)
-        ensures shape { told self.new ≡ record (told self.old) { used = take length self.old.used } }
+        ensures shape { fields_of self.new ≡ record (fields_of self.old) { used = take length self.old.used } }
         ensures options { self.new.options ≡ self.old.options }
     {
         let alloc = self.alloc();
@@ -100,8 +104,9 @@ impl Shape {
 
     /// Puts copies of the keys behind those that were chosen. An error changes nothing.
     fn choose(&mut self, later: &[Chosen]) -> Result<(), Memory>
-        ensures ok { OnOk result (told self.new ≡ record (told self.old) { chosen = self.old.chosen ++ later.now }) }
-        ensures err { OnErr result (told self.new ≡ told self.old) }
+        ensures ok { OnOk result (fields_of self.new
+            ≡ record (fields_of self.old) { chosen = self.old.chosen ++ later.now }) }
+        ensures err { OnErr result (fields_of self.new ≡ fields_of self.old) }
         ensures options { self.new.options ≡ self.old.options }
     {
         let alloc = self.alloc();
@@ -114,7 +119,8 @@ impl Shape {
 
     /// Keeps only the first of the keys that were chosen.
     fn forget(&mut self, length: usize)
-        ensures shape { told self.new ≡ record (told self.old) { chosen = take length self.old.chosen } }
+        ensures shape { fields_of self.new
+            ≡ record (fields_of self.old) { chosen = take length self.old.chosen } }
         ensures options { self.new.options ≡ self.old.options }
     {
         let alloc = self.alloc();
@@ -125,8 +131,9 @@ impl Shape {
 
     /// Takes the inputs away and the outputs in. An error changes nothing.
     fn exchange(&mut self, inputs: &[u64], outputs: &[TableRow]) -> Result<(), Memory>
-        ensures ok { OnOk result (told self.new ≡ shapes.after_exchange (told self.old) inputs.now outputs.now) }
-        ensures err { OnErr result (told self.new ≡ told self.old) }
+        ensures ok { OnOk result (fields_of self.new
+            ≡ shapes.after_exchange (fields_of self.old) inputs.now outputs.now) }
+        ensures err { OnErr result (fields_of self.new ≡ fields_of self.old) }
         ensures options { self.new.options ≡ self.old.options }
     {
         let alloc = self.alloc();
@@ -144,7 +151,8 @@ impl Shape {
 
     /// Puts these guards in place of the ones of a level.
     fn put_guards(&mut self, level: u8, keys: Vec<Key>)
-        ensures shape { told self.new ≡ record (told self.old) { guards = set self.old.guards (level - 1) keys.items } }
+        ensures shape { fields_of self.new
+            ≡ record (fields_of self.old) { guards = set self.old.guards (level - 1) keys.items } }
         ensures options { self.new.options ≡ self.old.options }
     {
         let none = List::of(Vec::new(self.alloc()));
@@ -159,7 +167,7 @@ impl Shape {
 
     /// Takes an opening in.
     fn open(&mut self, session: u64)
-        ensures shape { told self.new ≡ record (told self.old) { session = session; used = [] } }
+        ensures shape { fields_of self.new ≡ record (fields_of self.old) { session = session; used = [] } }
         ensures options { self.new.options ≡ self.old.options }
     {
         self.session = session;
@@ -168,9 +176,13 @@ impl Shape {
 
     /// Takes a flush in. An error changes nothing.
     fn flush(&mut self, row: &TableRow, to: u64, log: u64, chosen: &[Chosen]) -> Result<(), Memory>
-        ensures ok { OnOk result (told self.new
-            ≡ record (shapes.after_exchange (told self.old) [] (row.now ∷ [])) { to = to; log = log; chosen = self.old.chosen ++ chosen.now }) }
-        ensures err { OnErr result (told self.new ≡ told self.old) }
+        ensures ok { OnOk result (fields_of self.new
+            ≡ record (shapes.after_exchange (fields_of self.old) [] (row.now ∷ [])) {
+              to = to;
+              log = log;
+              chosen = self.old.chosen ++ chosen.now;
+            }) }
+        ensures err { OnErr result (fields_of self.new ≡ fields_of self.old) }
         ensures options { self.new.options ≡ self.old.options }
     {
         let known = self.chosen.items().len();
@@ -193,9 +205,12 @@ impl Shape {
         inputs: &[u64],
         outputs: &[TableRow],
     ) -> Result<(), Memory>
-        ensures ok { OnOk result (told self.new
-            ≡ record (shapes.after_exchange (told self.old) inputs.now outputs.now) { guards = set self.old.guards (level - 1) (ranges.with_keys keys.now (shapes.guards_at (told self.old) level)) }) }
-        ensures err { OnErr result (told self.new ≡ told self.old) }
+        ensures ok { OnOk result (fields_of self.new
+            ≡ record (shapes.after_exchange (fields_of self.old) inputs.now outputs.now) {
+              guards = set self.old.guards (level - 1)
+                  (ranges.with_keys keys.now (shapes.guards_at (fields_of self.old) level));
+            }) }
+        ensures err { OnErr result (fields_of self.new ≡ fields_of self.old) }
         ensures options { self.new.options ≡ self.old.options }
     {
         let guards = with_keys(self.alloc(), keys, self.guards_at(level as usize))?;
@@ -206,8 +221,8 @@ impl Shape {
 
     /// Takes an edit in that fits. An error changes nothing.
     fn grow(&mut self, edit: &Edit) -> Result<(), Memory>
-        ensures ok { OnOk result (told self.new ≡ shapes.grown (told self.old) edit.now) }
-        ensures err { OnErr result (told self.new ≡ told self.old) }
+        ensures ok { OnOk result (fields_of self.new ≡ shapes.shape_after (fields_of self.old) edit.now) }
+        ensures err { OnErr result (fields_of self.new ≡ fields_of self.old) }
         ensures options { self.new.options ≡ self.old.options }
     {
         match edit {
@@ -241,13 +256,18 @@ impl Shape {
         }
     }
 
-    /// Takes an edit in where it fits. False comes exactly where it doesn't; then, and on an error, nothing changes.
+    /// Takes an edit in where it fits. False comes exactly where it doesn't; then, and on an error,
+    /// nothing changes.
     pub fn add(&mut self, edit: &Edit) -> Result<bool, Memory>
-        ensures fits { IfOk result (λ fitting. fitting ≡ fits.fits (column self.old.options.profile) (told self.old) edit.now) }
-        ensures grown { IfOk result (λ fitting. told self.new ≡ (if fitting then shapes.grown (told self.old) edit.now else told self.old)) }
-        ensures err { OnErr result (told self.new ≡ told self.old) }
+        ensures fits { IfOk result (λ fitting. fitting
+            ≡ fits.fits (column self.old.options.profile) (fields_of self.old) edit.now) }
+        ensures grown { IfOk result (λ fitting. fields_of self.new
+            ≡ (if fitting then shapes.shape_after (fields_of self.old) edit.now else fields_of
+            self.old)) }
+        ensures err { OnErr result (fields_of self.new ≡ fields_of self.old) }
         ensures options { self.new.options ≡ self.old.options }
-        ensures record { IfOk result (λ fitting. GoesOn (column self.old.options.profile) (told self.old) (told self.new) edit.now fitting) }
+        ensures record { IfOk result (λ fitting. GoesOn (column self.old.options.profile) (fields_of self.old)
+            (fields_of self.new) edit.now fitting) }
     {
         if !self.fits(edit)? {
             return Ok(false);

@@ -1,7 +1,9 @@
 //! What every legal history keeps. Each function runs nothing; its contract is the law.
 //!
-//! A law speaks of every profile and every legal history over a base, that is over batches and a record that is true of
-//! them. Jobs in flight, jobs that were cut short, faults of the journal and stops are all part of such a history. Since each front of a
+//! A law speaks of every profile and every legal history over a base. `Always` takes a record that
+//! is true of the batches; `AlwaysFormed` takes any legal record, so that the law also holds over
+//! devices that tell nothing, where a history has no contents. Jobs in flight, jobs that were cut
+//! short, faults of the journal and stops are all part of such a history. Since each front of a
 //! legal history is legal, a law holds at every moment.
 
 ghost use Rattle.flsm_model.specs.Legal.{Always, AlwaysFormed};
@@ -14,7 +16,9 @@ ghost use Rattle.flsm_model.specs.Made.{OutcomesFit, OutcomesStay};
 ghost use Rattle.flsm_model.specs.LastLevel.{WrittenByMerges};
 ghost use Rattle.flsm_model.specs.Fronts.{EmptyIsTrue, FrontsAreLegal, MarksInOrder};
 ghost use Rattle.flsm_model.specs.Settling.{EditsSettle, MeasureFalls, OutcomesConserve};
-ghost use Rattle.flsm_model.specs.Picked.{PickedIsLawful, IdleHasRoom};
+ghost use Rattle.flsm_model.specs.Picked.{PickedIsLawful, IdleHasRoom, ChosenAscend, AscendingAreEqual};
+ghost use Rattle.flsm_model.specs.Candidates.{CandidatesMeet};
+ghost use Rattle.flsm_model.specs.Claims.{FreeByClaims};
 ghost use Rattle.flsm_model.specs.Contents.{TablesStand, NewestIsShown};
 ghost use Rattle.flsm_model.specs.Sound.{RecordsSound, RecordsNested, RecordsBounded};
 
@@ -23,47 +27,50 @@ pub fn law_place()
     ensures { Always OnePlace }
 {}
 
-/// A key's numbers fall from each level to every deeper one, so a read may stop at the first level that has the key.
+/// A key's numbers fall from each level to every deeper one, so a read may stop at the first level
+/// that has the key.
 pub fn law_order()
     ensures { Always OrderHolds }
 {}
 
-/// Each live table below level 0 lies in one guard's range of its level, and a compaction's inputs have no put of a candidate of the next
-/// level that isn't a guard there.
+/// Each live table below level 0 lies in one guard's range of its level, and a compaction's inputs
+/// have no put of a candidate of the next level that isn't a guard there.
 pub fn law_guards()
     ensures placed { AlwaysFormed PlaceInGuards }
     ensures cut { AlwaysCut }
 {}
 
-/// Where a number is last or held, the newest puts up to it in the memtables and live tables are those of the batches; as lists of rows,
-/// they are the ordered map.
+/// Where a number is last or held, the newest puts up to it in the memtables and live tables are
+/// those of the batches; as lists of rows, they are the ordered map.
 pub fn law_map()
     ensures puts { Always MapHolds }
     ensures rows { Always MapShows }
 {}
 
-/// Above the last level each entry is written once, once more for each new guard inside its table, and once for each attempt. Further
-/// writings into the last level are those of Merges.
+/// Above the last level each entry is written once, once more for each new guard inside its table,
+/// and once for each attempt. Further writings into the last level are those of Merges.
 pub fn law_bound()
     ensures history { Always WrittenOnce }
     ensures edits { RecordBound }
     ensures last { Always WrittenByMerges }
 {}
 
-/// The record is legal, and true of the batches where contents are known; the tree is the one that the record spells. It ends with the
-/// edits that the open session made.
+/// The record is legal, and true of the batches where contents are known; the tree is the one that
+/// the record spells. It ends with the edits that the open session made.
 pub fn law_record()
     ensures legal { AlwaysFormed RecordIsLegal }
     ensures holds { Always RecordIsTrue }
     ensures session { AlwaysFormed EndsWithSession }
 {}
 
-/// What stands where no session is open is a true base, and below the limit of sessions the next one may be opened.
+/// What stands where no session is open is a true base, and below the limit of sessions the next
+/// one may be opened.
 pub fn law_stop()
     ensures { Always StopLeavesBase }
 {}
 
-/// No claims of two jobs in flight conflict, and each such job still has its range, its inputs, its keys and its numbers.
+/// No claims of two jobs in flight conflict, and each such job still has its range, its inputs, its
+/// keys and its numbers.
 pub fn law_jobs()
     ensures { AlwaysFormed JobsUndisturbed }
 {}
@@ -73,7 +80,8 @@ pub fn law_outcomes()
     ensures { AlwaysFormed OutcomesFit }
 {}
 
-/// The outcome of each job in flight is what the job makes of its inputs by its own keys, and stays so while the job is in flight.
+/// The outcome of each job in flight is what the job makes of its inputs by its own keys, and stays
+/// so while the job is in flight.
 pub fn law_stays()
     ensures { Always OutcomesStay }
 {}
@@ -91,13 +99,15 @@ pub fn law_fronts()
     ensures fronts { FrontsAreLegal }
 {}
 
-/// What was flushed is stable, what is frozen lies above it and is stable too, and nothing above the last number is.
+/// What was flushed is stable, what is frozen lies above it and is stable too, and nothing above
+/// the last number is.
 pub fn law_marks()
     ensures { AlwaysFormed MarksInOrder }
 {}
 
-/// An edit that has work, and writes no more entries than it takes, leaves less to do until the store is settled: fewer levels to go,
-/// or else fewer candidates without a guard, or else fewer tables in the last level. Outcomes write no more than their jobs take.
+/// An edit that has work, and writes no more entries than it takes, leaves less to do until the
+/// store is settled: fewer levels to go, or else fewer candidates without a guard, or else fewer
+/// tables in the last level. Outcomes write no more than their jobs take.
 pub fn law_settles()
     ensures edits { EditsSettle }
     ensures measure { MeasureFalls }
@@ -109,12 +119,14 @@ pub fn law_due()
     ensures { AlwaysFormed PickedIsLawful }
 {}
 
-/// Where no job is in flight and none is picked, nothing is frozen, and level 0 and each guard have room.
+/// Where no job is in flight and none is picked, nothing is frozen, and level 0 and each guard have
+/// room.
 pub fn law_idle()
     ensures { AlwaysFormed IdleHasRoom }
 {}
 
-/// The rows of the live tables are the live ones, in their order; each tells of its table, and each table's entries ascend.
+/// The rows of the live tables are the live ones, in their order; each tells of its table, and each
+/// table's entries ascend.
 pub fn law_tables()
     ensures { Always TablesStand }
 {}
@@ -122,4 +134,19 @@ pub fn law_tables()
 /// A key's value in what entries show at a number is that of its newest entry at or below it.
 pub fn law_lookup()
     ensures { NewestIsShown }
+{}
+
+/// Where each key stands with the shallowest level that it meets, as those of a legal record do,
+/// the candidates of a level are the chosen keys that meet the level's need. The chosen keys for
+/// which a test holds ascend, and an ascending list is known by its keys.
+pub fn law_candidates()
+    ensures meet { CandidatesMeet }
+    ensures ascend { ChosenAscend }
+    ensures equal { AscendingAreEqual }
+{}
+
+/// A job is free exactly where each of its claims is, so that claims can be tested before inputs
+/// and keys are collected.
+pub fn law_claims()
+    ensures { FreeByClaims }
 {}

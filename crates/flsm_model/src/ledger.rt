@@ -10,7 +10,8 @@ use peb_base::{Memory, TableRow};
 use std::alloc::Global;
 use std::marker::Model;
 
-/// What was written into each level, and what jobs that were cut short wrote in vain. Sums stop at the type's end.
+/// What was written into each level, and what jobs that were cut short wrote in vain. Sums stop at
+/// the type's end.
 #[derive(Debug, Drop)]
 pub struct Ledger {
     levels: Vec<LevelCount>,
@@ -48,7 +49,8 @@ impl Ledger {
     pub fn add(&mut self, edit: &Edit)
         requires { All (λ row. row.level < length self.old) (outputs_of edit.now) }
         ensures levels { length self.new ≡ length self.old }
-        ensures counts { (es : Record) (shorts : Shorts) → IsLedger self.old es shorts → IsLedger self.new (es ++ edit.now ∷ []) shorts }
+        ensures counts { (es : Record) (shorts : Shorts) → IsLedger self.old es shorts
+            → IsLedger self.new (es ++ edit.now ∷ []) shorts }
     {
         match edit {
             Edit::Open { .. } => {}
@@ -63,7 +65,8 @@ impl Ledger {
     pub fn short(&mut self, level: u8, bytes: u64)
         requires { level < length self.old }
         ensures levels { length self.new ≡ length self.old }
-        ensures counts { (es : Record) (shorts : Shorts) → IsLedger self.old es shorts → IsLedger self.new es (shorts ++ (level, bytes) ∷ []) }
+        ensures counts { (es : Record) (shorts : Shorts) → IsLedger self.old es shorts
+            → IsLedger self.new es (shorts ++ (level, bytes) ∷ []) }
     {
         let level = level as usize;
         self.levels[level] = self.levels[level].with_short(bytes);
@@ -85,7 +88,8 @@ impl Ledger {
         requires { row.now.level < length self.old }
         ensures levels { length self.new ≡ length self.old }
         ensures counts { (rows cuts : List TableRow) (shorts : Shorts)
-            → Counts self.old rows cuts shorts → Counts self.new (rows ++ row.now ∷ []) cuts shorts }
+            → Counts self.old rows cuts shorts
+            → Counts self.new (rows ++ row.now ∷ []) cuts shorts }
     {
         let level = row.level as usize;
         self.levels[level] = self.levels[level].with_row(row);
@@ -97,7 +101,8 @@ impl Ledger {
         requires { row.now.level < length self.old }
         ensures levels { length self.new ≡ length self.old }
         ensures counts { (rows cuts : List TableRow) (shorts : Shorts)
-            → Counts self.old rows cuts shorts → Counts self.new (rows ++ row.now ∷ []) (cuts ++ row.now ∷ []) shorts }
+            → Counts self.old rows cuts shorts
+            → Counts self.new (rows ++ row.now ∷ []) (cuts ++ row.now ∷ []) shorts }
     {
         let level = row.level as usize;
         self.levels[level] = self.levels[level].with_cut_row(row);
@@ -120,7 +125,8 @@ impl Ledger {
         requires { All (λ row. row.level < length self.old) added.now }
         ensures levels { length self.new ≡ length self.old }
         ensures counts { (rows cuts : List TableRow) (shorts : Shorts)
-            → Counts self.old rows cuts shorts → Counts self.new (rows ++ added.now) (cuts ++ added.now) shorts }
+            → Counts self.old rows cuts shorts
+            → Counts self.new (rows ++ added.now) (cuts ++ added.now) shorts }
     {
         for row in added {
             self.count_cut_row(row);

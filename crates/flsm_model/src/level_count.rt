@@ -5,7 +5,8 @@ ghost use Rattle.flsm_model.specs.Ledgers as ledgers;
 
 use peb_base::TableRow;
 
-/// What was written into one level, in tables, entries and bytes, and what was written in vain. Each sum stops at the type's end.
+/// What was written into one level, in tables, entries and bytes, and what was written in vain.
+/// Each sum stops at the type's end.
 #[derive(Clone, Copy, Debug, PartialEq, Eq)]
 pub struct LevelCount {
     pub tables: u64,

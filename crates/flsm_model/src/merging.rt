@@ -8,9 +8,12 @@ use crate::copying::copy_keys;
 use peb_base::{Key, Memory, is_below};
 use std::alloc::Global;
 
-/// The place of the key among guards: Ok where it is one of them, Err where it belongs in front of this place.
+/// The place of the key among guards: Ok where it is one of them, Err where it belongs in front of
+/// this place.
 fn place_of(guards: &[Key], key: &[u8]) -> Result<usize, usize>
-    ensures { MatchResult result (λ place. ranges.with_key key.now guards.now ≡ guards.now) (λ place. (place ≤ length guards.now) × (ranges.with_key key.now guards.now ≡ insert guards.now place key.now)) }
+    ensures { MatchResult result (λ place. ranges.with_key key.now guards.now
+        ≡ guards.now) (λ place. (place ≤ length guards.now)
+        × (ranges.with_key key.now guards.now ≡ insert guards.now place key.now)) }
 {
     for (place, guard) in guards.iter().enumerate() {
         let guard = guard.bytes();

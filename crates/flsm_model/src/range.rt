@@ -7,7 +7,8 @@ ghost use Rattle.flsm_model.specs.Fits as fits;
 
 use peb_base::{Key, TableRow, is_below};
 
-/// The range of a guard: from `lo` on, which is empty for the sentinel, and below `hi`, if there is one.
+/// The range of a guard: from `lo` on, which is empty for the sentinel, and below `hi`, if there is
+/// one.
 #[derive(Clone, Copy)]
 pub struct Range<'a> {
     pub lo: &'a [u8],

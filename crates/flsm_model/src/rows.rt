@@ -58,7 +58,8 @@ pub fn is_split(row: &TableRow, keys: &[Key]) -> bool
 
 /// Whether the row is a table of the range of the level that one of the keys splits.
 pub fn is_straddled(level: u8, range: &Range, keys: &[Key], row: &TableRow) -> bool
-    ensures { result ≡ fits.is_straddled level (range.now.lo.now, option_copied range.now.hi) keys.now row.now }
+    ensures { result
+        ≡ fits.is_straddled level (range.now.lo.now, option_copied range.now.hi) keys.now row.now }
 {
     row.level == level && range.has_row(row) && is_split(row, keys)
 }
@@ -155,7 +156,9 @@ pub fn first_of(keys: &[Key]) -> &[u8]
 
 /// Whether each row is at the level, lies in the range, and in one of the guards.
 pub fn are_cut_at(level: u8, range: &Range, guards: &[Key], rows: &[TableRow]) -> bool
-    ensures { result ≡ list_all (fits.is_cut_output level (range.now.lo.now, option_copied range.now.hi) guards.now) rows.now }
+    ensures { result
+        ≡ list_all (fits.is_cut_output level (range.now.lo.now, option_copied range.now.hi)
+        guards.now) rows.now }
 {
     rows.iter().all(|row| row.level == level
         && range.has_row(row)

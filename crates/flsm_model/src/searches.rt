@@ -58,6 +58,15 @@ pub fn is_chosen(chosen: &[Chosen], key: &[u8]) -> bool
     chosen.iter().any(|c| key == c.key.bytes())
 }
 
+/// Whether the key was chosen with the level or with a shallower one.
+pub fn is_candidate(chosen: &[Chosen], level: u8, key: &[u8]) -> bool
+    ensures { result ≡ fits.is_candidate chosen.now level key.now }
+{
+    chosen
+        .iter()
+        .any(|c| c.level <= level && key == c.key.bytes())
+}
+
 /// Whether one of the rows has the number.
 pub fn is_live(rows: &[TableRow], number: u64) -> bool
     ensures { result ≡ shapes.is_numbered rows.now number }

@@ -11,7 +11,8 @@ use std::alloc::Global;
 
 /// What a record of edits leaves, as far as later edits depend on it.
 ///
-/// A shape begins empty. It stays one that a legal record leaves, since `add` takes only edits that fit.
+/// A shape begins empty. It stays one that a legal record leaves, since `add` takes only edits that
+/// fit.
 #[derive(Debug, Drop)]
 pub struct Shape {
     alloc: Global,
@@ -46,12 +47,12 @@ fn no_guards(alloc: Global, levels: u8) -> Result<Vec<List<Key>>, Memory>
 }
 
 impl Shape {
-    ghost use Rattle.flsm_model.specs.Told.{told};
+    ghost use Rattle.flsm_model.specs.Fields.{fields_of};
 
     /// The shape of the empty record.
     pub fn new(alloc: Global, options: &Options) -> Result<Shape, Memory>
-        ensures shape { IfOk result (λ shape. told shape ≡ empty_shape (column options.now.profile)) }
-        ensures record { IfOk result (λ shape. IsShapeOf (column options.now.profile) (told shape) []) }
+        ensures shape { IfOk result (λ shape. fields_of shape ≡ empty_shape (column options.now.profile)) }
+        ensures record { IfOk result (λ shape. IsShapeOf (column options.now.profile) (fields_of shape) []) }
         ensures options { IfOk result (λ shape. shape.options ≡ options.now) }
     {
         let guards = no_guards(alloc, options.last_level)?;
@@ -75,7 +76,7 @@ impl Shape {
 
     /// The guards of a level, ascending. Level 0 has none.
     pub(crate) fn guards_at(&self, level: usize) -> &[Key]
-        ensures { result.now ≡ guards_at (told self.now) level }
+        ensures { result.now ≡ guards_at (fields_of self.now) level }
     {
         if level == 0 {
             return &[];

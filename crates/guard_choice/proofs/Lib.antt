@@ -1,4 +1,3 @@
-pub mod Needs
 pub mod OneMore
 pub mod Places
 pub mod Within

@@ -12,7 +12,8 @@ use Rattle.std.specs.declared.cmp.Ordering.TheVariants.{Less, Equal, Greater}
 use Rattle.peb_base.specs.Keys.{Bytes, key_lt, key_eq}
 use Rattle.peb_base.specs.KeyLaws.{same_key, key_self}
 use Rattle.flsm_model.specs.declared.chosen.Chosen.{Chosen}
-use Rattle.guard_choice.specs.Candidates.{is_candidate, Ascend}
+use Rattle.guard_choice.specs.Candidates.{Ascend}
+use Rattle.flsm_model.specs.Fits.{is_candidate}
 use Rattle.guard_choice.specs.Sorted.{place_in, with_chosen}
 use Rattle.guard_choice.proofs.Places.{AreAbove, above-from}
 

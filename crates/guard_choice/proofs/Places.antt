@@ -7,7 +7,8 @@ use Rattle.std.specs.List.Sorted.{IsPartitionedBy, IsPartitionPoint}
 use Rattle.peb_base.specs.Keys.{Bytes, key_lt, key_le, key_eq}
 use Rattle.peb_base.specs.KeyLaws.{lt_trans, le_lt, lt_asym, same_key}
 use Rattle.flsm_model.specs.declared.chosen.Chosen.{Chosen}
-use Rattle.guard_choice.specs.Candidates.{is_candidate, Ascend}
+use Rattle.guard_choice.specs.Candidates.{Ascend}
+use Rattle.flsm_model.specs.Fits.{is_candidate}
 use Rattle.guard_choice.specs.Sorted.{place_in}
 
 -- each key comes after this one

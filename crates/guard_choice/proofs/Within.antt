@@ -8,7 +8,8 @@ use Rattle.peb_base.specs.Keys.{Bytes, key_lt, key_le, key_eq}
 use Rattle.peb_base.specs.KeyLaws.{same_key, lt_le_weak, le_lt}
 use Rattle.flsm_model.specs.Ranges.{in_range, has_key, keys_ascend}
 use Rattle.flsm_model.specs.declared.chosen.Chosen.{Chosen}
-use Rattle.guard_choice.specs.Candidates.{is_candidate, Ascend}
+use Rattle.guard_choice.specs.Candidates.{Ascend}
+use Rattle.flsm_model.specs.Fits.{is_candidate}
 use Rattle.guard_choice.specs.Sorted.{end_in, place_in}
 use Rattle.guard_choice.proofs.Places.{AreAbove}
 

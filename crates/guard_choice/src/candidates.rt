@@ -4,7 +4,7 @@ ghost use Rattle.std.specs.Prelude.{◌≡◌, ℕ, ◌&&◌, ◌||◌, true, []
 ghost use Rattle.std.specs.Option.{option_copied};
 ghost use Rattle.peb_base.specs.Keys.{Bytes};
 ghost use Rattle.flsm_model.specs.Ranges.{in_range, has_key, keys_ascend};
-ghost use Rattle.guard_choice.specs.Candidates.{is_candidate};
+ghost use Rattle.flsm_model.specs.Fits.{is_candidate};
 
 use crate::sorted::{copies, end_of, keys_to, place_of, put};
 use flsm_model::Chosen;

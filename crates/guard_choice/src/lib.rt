@@ -6,11 +6,9 @@
 #![tactic(auto)]
 
 mod candidates;
-mod laws;
 mod sorted;
 #[cfg(test)]
 mod tests;
 
 pub use candidates::Candidates;
-pub use laws::law_candidates;
 pub use peb_base::{bits, level_of};

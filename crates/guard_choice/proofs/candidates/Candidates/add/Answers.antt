@@ -2,7 +2,7 @@ use Rattle.std.proofs.Common.{◌||◌, ◌&&◌, [], ◌∷◌, nat_le, sym, ap
 use Rattle.std.proofs.Math.Bool.{or-false}
 use Rattle.std.proofs.lemmas.List.Folds.{list_any-append}
 use Rattle.peb_base.specs.Keys.{key_eq}
-use Rattle.guard_choice.specs.Candidates.{is_candidate}
+use Rattle.flsm_model.specs.Fits.{is_candidate}
 use Rattle.guard_choice.proofs.OneMore.{one-more, ascend-more, handed}
 use Rattle.guard_choice.proofs.candidates.Candidates.add.Goals as goal
 

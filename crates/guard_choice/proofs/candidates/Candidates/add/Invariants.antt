@@ -1,6 +1,7 @@
 use Rattle.std.proofs.Common.{◌≡◌, ◌+◌, ◌≤◌, ◌||◌, ℕ, vec_len, vec_capacity}
 use Rattle.peb_base.specs.Keys.{Bytes}
-use Rattle.guard_choice.specs.Candidates.{is_candidate, Ascend}
+use Rattle.guard_choice.specs.Candidates.{Ascend}
+use Rattle.flsm_model.specs.Fits.{is_candidate}
 use Rattle.guard_choice.proofs.candidates.Candidates.add.Given as goal
 
 abbrev pub invariant-loop-next : goal.invariant-loop-next

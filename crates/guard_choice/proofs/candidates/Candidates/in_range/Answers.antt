@@ -2,7 +2,7 @@ use Rattle.std.proofs.Common.{◌≡◌, ◌&&◌, map, filter, take, drop, nat_
 use Rattle.std.proofs.lemmas.Result.{IfOk-weaker}
 use Rattle.std.specs.Option.{option_copied}
 use Rattle.flsm_model.specs.Ranges.{in_range, has_key, keys_ascend}
-use Rattle.guard_choice.specs.Candidates.{is_candidate}
+use Rattle.flsm_model.specs.Fits.{is_candidate}
 use Rattle.guard_choice.specs.Sorted.{end_in, place_in}
 use Rattle.guard_choice.proofs.Within.{ascend-drop, has-kept, has-within, kept-ascend}
 use Rattle.guard_choice.proofs.candidates.Candidates.in_range.Goals as goal

@@ -1,7 +1,7 @@
 use Rattle.std.proofs.Common.{◌≡◌, ◌<◌, ◌≤◌, ◌&&◌, length, sym, ap, ◌∙◌, rules}
 use Rattle.std.proofs.lemmas.Bool.{le-leb, lt-leb}
 use Rattle.peb_base.specs.Keys.{key_eq}
-use Rattle.guard_choice.specs.Candidates.{is_candidate}
+use Rattle.flsm_model.specs.Fits.{is_candidate}
 use Rattle.guard_choice.specs.Sorted.{place_in}
 use Rattle.guard_choice.proofs.Places.{found-at, absent-at}
 use Rattle.guard_choice.proofs.candidates.Candidates.is_candidate.Goals as goal

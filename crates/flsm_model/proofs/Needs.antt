@@ -1,5 +1,5 @@
 -- Which levels a key meets.
-use Rattle.std.proofs.Common.{◌≡◌, ℕ, zero, suc, ◌-◌, ◌*◌, ◌<◌, ◌≤◌, Bool, true, false, ◌&&◌, ◌||◌, List, [], ◌∷◌, Some, cond, refl, sym, ap, ◌∙◌, subst, inl, inr, arith, nat_le}
+use Rattle.std.proofs.Common.{◌≡◌, ℕ, zero, suc, ◌-◌, ◌*◌, ◌<◌, ◌≤◌, Bool, true, false, ◌&&◌, ◌||◌, [], ◌∷◌, Some, cond, refl, sym, ap, ◌∙◌, subst, inl, inr, arith, nat_le}
 use Rattle.std.proofs.Math.Bool.{and-false}
 use Rattle.std.proofs.Math.Nat.{mul-le-mul_left}
 use Rattle.std.proofs.lemmas.Bool.{cases_eq, cases_lt, leb-true, le-leb, lt-leb}
@@ -7,10 +7,8 @@ use Rattle.peb_base.specs.Keys.{Bytes, key_eq}
 use Rattle.peb_base.specs.KeyLaws.{same_key}
 use Rattle.peb_base.specs.Choice.{need, meets, bits, level_from, level_of}
 use Rattle.peb_base.specs.Profiles.{Column}
-use Rattle.flsm_model.specs.Fits.{is_chosen}
-use Rattle.flsm_model.specs.declared.chosen.Chosen.{Chosen}
-use Rattle.guard_choice.specs.Candidates.{is_candidate}
-use Rattle.guard_choice.specs.Laws.{StandAtTheirLevels}
+use Rattle.flsm_model.specs.Fits.{is_chosen, is_candidate}
+use Rattle.flsm_model.specs.Candidates.{CandidatesMeet}
 
 -- the level that was found is met, and none before it is
 record IsShallowest (o : Column) (key : Bytes) (from level : ℕ) : Type 0 where
@@ -58,7 +56,7 @@ joined a true true chosen held same is = rw (same refl) refl
 joined a true false chosen held same is = rw (same refl) (is ∙ and-false chosen)
 joined a false m chosen held same is = rw (and-false a) is
 
-pub candidates-meet : (o : Column) (cs : List Chosen) (level : ℕ) (key : Bytes) → StandAtTheirLevels o cs → 1 ≤ level → is_candidate cs level key ≡ (is_chosen cs key && meets o level key)
+pub candidates-meet : CandidatesMeet
 candidates-meet o [] level key stand from = refl
 candidates-meet o (c ∷ cs) level key stand from =
     joined (nat_le c.level level) (key_eq key c.key) (meets o level key) (is_chosen cs key) (is_candidate cs level key)

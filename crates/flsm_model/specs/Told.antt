@@ -1,7 +1,0 @@
--- What a shape in the code stands for.
-use Rattle.flsm_model.specs.declared.shape.Shape as code
-use Rattle.flsm_model.specs.Shape.{Shape}
-
--- its fields, as the definitions read them of a record
-abbrev pub told : code.Shape → Shape
-told s = record { session = s.session; to = s.to; log = s.log; used = s.used; chosen = s.chosen; guards = s.guards; live = s.live }
