@@ -30,13 +30,16 @@ use Rattle.flsm_core.proofs.Replays.{OneBatch}
 
 -- the next log wasn't read
 pub open_refused : Finished → OneLog → Undamaged → (rose : Type 0) (tells : Bool) (seen : Image) (profile : Profile) (number : ℕ) (held : List Held) (fault : LogFault)
-    → 1 + length held ≡ number → (IsTrue tells → BeginsLogs 1 held seen) → (fault ≡ logs.Fault → rose)
+    → 1 + length held ≡ number → AreOf profile held → (IsTrue tells → BeginsLogs 1 held seen) → (fault ≡ logs.Fault → rose)
     → (IsTrue tells → AtDamage fault (λ at. (bytes : List ℕ) × (seen (Log number) ≡ Some bytes) × IsDamaged (Log number) bytes at))
     → OpenCause rose tells seen profile (fault_of number fault)
-open_refused fin one un rose tells seen profile number held logs.Fault size begins cause damage = cause refl
-open_refused fin one un rose tells seen profile number held (logs.Damaged at) size begins cause damage =
-    (number, refl, λ told. let d = damage told in unreadable_log fin one un number at held seen d.0 size (begins told) d.1 d.2)
-open_refused fin one un rose tells seen profile number held logs.Memory size begins cause damage = tt
+open_refused fin one un rose tells seen profile number held logs.Fault size same begins cause damage = cause refl
+open_refused fin one un rose tells seen profile number held (logs.Damaged at) size same begins cause damage = (
+  number,
+  refl,
+  λ told. let d = damage told in (unreadable_log fin one un number at held seen d.0 size (begins told) d.1 d.2, (held, begins told, same, omega (arith, size))),
+)
+open_refused fin one un rose tells seen profile number held logs.Memory size same begins cause damage = tt
 
 -- the next log is one of those that are read
 read_log : (number : ℕ) (held : List Held) (header : Header) (records : List Record) (seen : Image) (P : Header → Type 0) → 1 + length held ≡ number → BeginsLogs 1 held seen
@@ -55,14 +58,16 @@ add_refused fin one batch rose tells seen profile number found held batches head
 add_refused fin one batch rose tells seen profile number found held batches header records (opens.Damaged file at) size begins is holds cause = (
   number,
   cause.0,
-  λ told. let h = holds told in
-      unreadable_records fin one batch number held batches (record { header = header; groups = h.groups }) seen size (begins told) is.spelled h.log
-      (subst (λ bodies. CantGoOn header.session batches bodies) (sym (bodies_read records h.groups h.given)) (cause.1 held batches is)),
+  λ told. let h = holds told in (
+    unreadable_records fin one batch number held batches (record { header = header; groups = h.groups }) seen size (begins told) is.spelled h.log
+        (subst (λ bodies. CantGoOn header.session batches bodies) (sym (bodies_read records h.groups h.given)) (cause.1 held batches is)),
+    (held, begins told, is.same, omega (arith, size)),
+  ),
 )
 add_refused fin one batch rose tells seen profile number found held batches header records (opens.Profile have asked) size begins is holds cause =
     (cause.1, cause.2, λ told. read_log number held header records seen (λ h. h.profile ≡ have) size (begins told) (holds told) (sym cause.0))
 add_refused fin one batch rose tells seen profile number found held batches header records (opens.Limit kind n) size begins is holds cause =
-    (cause.0, cause.1, λ told. read_log number held header records seen (λ h. 8388607 ≤ h.session) size (begins told) (holds told) cause.2)
+    (cause.0, cause.1, λ told. read_log number held header records seen (λ h. (h.profile ≡ profile) × (8388607 ≤ h.session)) size (begins told) (holds told) (cause.2, cause.3))
 add_refused fin one batch rose tells seen profile number found held batches header records opens.Memory size begins is holds cause = tt
 
 -- the log that was taken in
@@ -209,3 +214,7 @@ if_ok (Err e) P Q f p = tt
 pub if_err : {T E : Type 0} (r : Result T E) (P Q : E → Type 0) → ((e : E) → P e → Q e) → IfErr r P → IfErr r Q
 if_err (Ok x) P Q f p = tt
 if_err (Err e) P Q f p = f e p
+
+pub if_both : {T E : Type 0} (r : Result T E) (P Q R : T → Type 0) → ((x : T) → P x → Q x → R x) → IfOk r P → IfOk r Q → IfOk r R
+if_both (Ok x) P Q R f p q = f x p q
+if_both (Err e) P Q R f p q = tt

@@ -30,7 +30,8 @@ OpensOn profile true base seen may_leave = (image : Image) → may_leave image
     → Stands profile base image
 OpensOn profile false base seen may_leave = ReadsAs profile base seen
 
--- no batches are read of the image in any profile: some log isn't in its form
+-- no batches are read of the image in any profile: some log isn't in its form, its batches don't go
+-- on after those before, or the profiles of two logs differ
 abbrev pub IsUnreadable : Image → Type 0
 IsUnreadable image =
     (profile : Profile) (logs : List Held) (batches : Batches) → Reads profile image logs batches
@@ -41,17 +42,22 @@ abbrev pub HasReadLog : Image → (Header → Type 0) → Type 0
 HasReadLog image P =
     (logs : List Held) × (log : Held) × BeginsLogs 1 (logs ++ log ∷ []) image × P log.header
 
+-- the log of this number comes right after first logs of the image, all of this profile
+abbrev pub ComesAfterLogs : Profile → ℕ → Image → Type 0
+ComesAfterLogs profile n image =
+    (logs : List Held) × BeginsLogs 1 logs image × AreOf profile logs × (n ≡ suc (length logs))
+
 -- why an opening was refused, where the journal rose, and where it tells what it held
 abbrev pub OpenCause : Type 0 → Bool → Image → Profile → OpenFault → Type 0
 OpenCause rose tells seen profile opens.Journal = rose
 OpenCause rose tells seen profile (opens.Damaged file at) = (n : ℕ) × (file ≡ names.Log n)
-    × (IsTrue tells → IsUnreadable seen)
+    × (IsTrue tells → IsUnreadable seen × ComesAfterLogs profile n seen)
 OpenCause rose tells seen profile (opens.Profile have asked) =
     (asked ≡ profile) × (have ≢ profile)
     × (IsTrue tells → HasReadLog seen (λ header. header.profile ≡ have))
 OpenCause rose tells seen profile (opens.Limit kind n) =
     (kind ≡ kinds.Openings) × (n ≡ 8388607)
-    × (IsTrue tells → HasReadLog seen (λ header. 8388607 ≤ header.session))
+    × (IsTrue tells → HasReadLog seen (λ header. (header.profile ≡ profile) × (8388607 ≤ header.session)))
 OpenCause rose tells seen profile opens.Memory = Unit {0}
 
 -- ---- the reading of logs, one after another
@@ -99,7 +105,7 @@ AddCause profile number header P (opens.Damaged file at) = (file ≡ names.Log n
 AddCause profile number header P (opens.Profile have asked) = (have ≡ header.profile)
     × (asked ≡ profile) × (have ≢ profile)
 AddCause profile number header P (opens.Limit kind n) = (kind ≡ kinds.Openings) × (n ≡ 8388607)
-    × (8388607 ≤ header.session)
+    × (header.profile ≡ profile) × (8388607 ≤ header.session)
 AddCause profile number header P opens.Memory = Unit {0}
 
 -- what was read of the logs, once they were synced: a crash leaves them so

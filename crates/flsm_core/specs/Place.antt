@@ -1,5 +1,5 @@
 -- Where an open store stands: the batches that it has, and which of them a crash leaves.
-use Rattle.std.specs.Prelude.{◌≡◌, ◌⊎◌, ℕ, ◌+◌, ◌-◌, ◌*◌, ◌^◌, ◌<◌, max, map, length, Bool, true, false, List, [], ◌∷◌, ◌++◌, Result, Ok, Err}
+use Rattle.std.specs.Prelude.{◌≡◌, ◌⊎◌, ℕ, ◌+◌, ◌-◌, ◌*◌, ◌^◌, ◌<◌, ◌≤◌, max, map, length, Bool, true, false, List, [], ◌∷◌, ◌++◌, Result, Ok, Err}
 use Rattle.peb_base.specs.declared.op.Op.{Op}
 use Rattle.peb_base.specs.declared.change.Change.TheVariants.{Put}
 use Rattle.peb_base.specs.Keys.{Bytes}
@@ -43,7 +43,7 @@ start_at told profile honest base =
 pub record Place : Type 0 where
   -- what the opening began with
   pub start : Start
-  -- the batches that every crash leaves
+  -- the batches that every crash leaves, where the opening was honest
   pub settled : Batches
   -- the batches after them, which a crash may lose
   pub waiting : Batches
@@ -85,7 +85,7 @@ halted p = record p { stopped = true }
 
 -- the next number is past the last one of the session
 abbrev pub IsOutOfNumbers : ℕ → Batches → Type 0
-IsOutOfNumbers session batches = next_number session batches ≡ session * 2 ^ 40 + 2 ^ 40
+IsOutOfNumbers session batches = session * 2 ^ 40 + 2 ^ 40 ≤ next_number session batches
 
 -- the records that wait and one more would take more bytes than a tail may have
 abbrev pub IsTailFull : ℕ → Place → List Op → Type 0
@@ -111,7 +111,7 @@ after_put session p ops (Ok n) = with_batch session p ops
 after_put session p ops (Err fault) = p
 
 -- a put may answer so: its number is the next one; it is refused exactly where the journal has
--- failed before, or where a limit is passed
+-- failed before, or where a limit is passed, or for want of memory
 abbrev pub Puts : ℕ → Place → List Op → Result ℕ CommitFault → Type 0
 Puts session p ops (Ok n) =
     (p.stopped ≡ false) × IsWithinLimits session p ops × (n ≡ next_number session (all_of p))

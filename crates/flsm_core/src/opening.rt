@@ -128,6 +128,7 @@ impl<J: Journal> State<J> {
             → HasRead J.Journal journal start logs
             → (image : Image) → J.left_since e.1 start.moment image
             → Stands start.profile start.base image) }
+        ensures time { IfErr result (λ e. J.moment journal ≤ J.moment e.1) }
         ensures never_falls { MatchResult result
             (λ state. J.faults journal ≤ J.faults (state_journal state))
             (λ e. J.faults journal ≤ J.faults e.1) }
@@ -157,9 +158,9 @@ impl<J: Journal> State<J> {
     /// The session is 1 + the greatest in a header. `Journal` comes only where the journal failed;
     /// `Damaged` only where a log isn't in its form, or its batches don't go on after those before;
     /// `Profile` only where a log that is read has another profile than the one asked for; `Limit`
-    /// only where no session is left above that of a log that is read. A refusal hands the journal
-    /// back, and every crash during it and after it leaves the batches that were there; where the
-    /// journal didn't fail, it was only read and synced.
+    /// only where no session is left above that of a log that is read, told after `Profile`. A
+    /// refusal hands the journal back, and every crash during it and after it leaves the batches
+    /// that were there; where the journal didn't fail, it was only read and synced.
     pub fn open(alloc: Global, journal: J, profile: Profile) -> Result<State<J>, (OpenFault, J)>
         // what it gives
         ensures stands { IfOk result (λ state. IsTrue J.tells → (honest : Bool) (base : Batches)
@@ -167,10 +168,12 @@ impl<J: Journal> State<J> {
             → IsAt J.Journal state (opened (start_at (told_by J.Journal journal) profile honest base))) }
         ensures somewhere { IfOk result (λ state. (base : Batches)
             × (IsTrue J.tells → ReadsAs profile base (J.seen journal))
-            × IsAt J.Journal state (opened (start_at (told_by J.Journal journal) profile false base))) }
+            × IsAt J.Journal state (opened (start_at (told_by J.Journal journal) profile false base))
+            × (last_number base < state_session state * 2 ^ 40)) }
         ensures session { IfOk result (λ state. IsTrue J.tells → (logs : List Held)
             × HoldsLogs 1 logs (J.seen journal)
             × (state_session state ≡ suc (greatest_session logs))) }
+        ensures possible { IfOk result (λ state. state_session state ≤ 8388607) }
         ensures fresh { IfOk result (λ state. IsTrue J.tells → (base : Batches)
             → ReadsAs profile base (J.seen journal)
             → last_number base < state_session state * 2 ^ 40) }
@@ -184,6 +187,7 @@ impl<J: Journal> State<J> {
             → OpensOn profile true base (J.seen journal) (J.may_leave journal)
             → (image : Image) → J.left_since e.1 (J.moment journal) image
             → Stands profile base image) }
+        ensures time { IfErr result (λ e. J.moment journal ≤ J.moment e.1) }
         ensures never_falls { MatchResult result
             (λ state. J.faults journal ≤ J.faults (state_journal state))
             (λ e. J.faults journal ≤ J.faults e.1) }

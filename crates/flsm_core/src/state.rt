@@ -42,7 +42,7 @@ fn next_number(session: u32, last: Number) -> Option<Number>
     ensures here { IfSome result (λ n. session_of n ≡ session) }
     ensures counted { IfSome result (λ n. 1 ≤ count_of n) }
     ensures below { IfSome result (λ n. n < session * 2 ^ 40 + 2 ^ 40) }
-    ensures none { IfNone result (max last (session * 2 ^ 40) + 1 ≡ session * 2 ^ 40 + 2 ^ 40) }
+    ensures none { IfNone result (session * 2 ^ 40 + 2 ^ 40 ≤ max last (session * 2 ^ 40) + 1) }
 {
     if last.session() < session {
         return Some(Number::new(session, 1));

@@ -129,8 +129,8 @@ opens_read true profile base told left on = let stands = on told.seen left in (s
 opens_read false profile base told left on = on
 
 -- the next session, by what the opening told of it
-pub next_of : (base : Batches) (seen seen' : Image) (session : ℕ) → seen' ≡ seen → ((logs : List Held) × HoldsLogs 1 logs seen' × (session ≡ suc (greatest_session logs))) → last_number base < session * 2 ^ 40 → IsNext base seen session
-next_of base seen seen' session same found above = record { logs = found.0; holds = subst (HoldsLogs 1 found.0) same found.1; after = found.2; above = above }
+pub next_of : (seen seen' : Image) (session : ℕ) → seen' ≡ seen → ((logs : List Held) × HoldsLogs 1 logs seen' × (session ≡ suc (greatest_session logs))) → IsNext seen session
+next_of seen seen' session same found = record { logs = found.0; holds = subst (HoldsLogs 1 found.0) same found.1; after = found.2 }
 
 -- nothing was opened, and nothing was done
 pub nothing_opened : (asked : Asked) (old : Outside) (cause : Cause)
@@ -143,6 +143,7 @@ nothing_opened asked old cause counts only why = record {
   sinks = refl;
   untouched = λ other. watched_same old.devices.journal old.devices.journal counts only (tells_itself old.devices.journal);
   ever = λ told base on image left. on image (only image left);
+  now = λ told base on image left. on image left;
   tables = tables_stay old.devices.tables;
 }
 

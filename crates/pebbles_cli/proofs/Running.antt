@@ -1,5 +1,5 @@
 -- A run from its opening to its report.
-use Rattle.std.proofs.Common.{◌≡◌, ◌≢◌, ◌⊎◌, ℕ, ◌≤◌, Bool, true, false, IsTrue, List, [], ◌∷◌, ◌++◌, take, Option, Some, None, Result, Ok, Err, refl, sym, ap, ◌∙◌, subst, inl, inr, arith}
+use Rattle.std.proofs.Common.{◌≡◌, ◌≢◌, ◌⊎◌, ℕ, ◌*◌, ◌^◌, ◌<◌, ◌≤◌, Bool, true, false, IsTrue, List, [], ◌∷◌, ◌++◌, take, Option, Some, None, Result, Ok, Err, refl, sym, ap, ◌∙◌, subst, inl, inr, arith}
 use Rattle.std.specs.Result.{is_err}
 use Rattle.std.specs.Option.{option_or, unwrap_or}
 use Rattle.std.proofs.lemmas.Bool.{true≢false}
@@ -25,7 +25,7 @@ use Rattle.pebbles_cli.specs.Names.{replies_name}
 use Rattle.pebbles_cli.specs.Causes.{Says, IsBeforeOpening, IsOpeningCause, OpeningCause, opening_cause, IsScript, JournalRose, LineCause, ReportCause, SinkCause, PlayCause, ScriptCause, RefusalCause, sink_cause, end_of}
 use Rattle.pebbles_cli.specs.Outside.{DevicesTold, SinksTold, Outside}
 use Rattle.pebbles_cli.specs.Tells.{TookMore, sync_cause}
-use Rattle.pebbles_cli.specs.Top.{Asked, Run, Went, IsTaken, IsAnswered, IsUnheard, IsServed, Closed, IsClosed, IsDone, IsNext, Ran, NotOpened, Plays, PlaysSomehow, Reports, run_report}
+use Rattle.pebbles_cli.specs.Top.{Asked, Run, Went, IsTaken, IsAnswered, IsUnheard, IsServed, RepliesStay, Closed, IsClosed, IsDone, IsNext, Ran, NotOpened, Plays, PlaysSomehow, Reports, run_report}
 use Rattle.pebbles_cli.proofs.Serving.{took_none, took_more, took_front, rose_later}
 use Rattle.pebbles_cli.proofs.Growing.{run_goes_on, run_start, sync_start}
 use Rattle.pebbles_cli.proofs.Numbering.{run_told, weaker}
@@ -100,6 +100,28 @@ sink_told : (run : Run) (old new : SinksTold) (went : Went) → IsServed run old
 sink_told run old new went (inl answered) failed = inr (refl, inr (answered.failed failed))
 sink_told run old new went (inr unheard) failed = inr (refl, inl unheard.cause)
 
+rose_still : (a b c : ℕ) → b ≤ c → Rose a b → Rose a c
+rose_still a b c bc rose = omega arith
+
+-- what a sink failed by, told later
+sink_later : (old mid new : SinksTold) → RepliesStay mid new → SinkCause old mid 1 → SinkCause old new 1
+sink_later old mid new stay (inl report) = let e : ◌≡◌ {A = ℕ} 1 0 = report.0 in absurd (omega (arith, e))
+sink_later old mid new stay (inr (one, inl opening)) = inr (one, inl (rose_still old.faults mid.faults new.faults stay.never_falls opening))
+sink_later old mid new stay (inr (one, inr own)) = inr (one, inr (subst (λ (n : ℕ). Rose 0 n) (sym stay.reply_faults) own))
+
+report_weaker : (cause : Option Cause) (P Q : Type 0) → (P → Q) → ReportCause P cause → ReportCause Q cause
+report_weaker None P Q f h = tt
+report_weaker (Some causes.Memory) P Q f h = tt
+report_weaker (Some (causes.Sink i)) P Q f h = (h.0, f h.1)
+report_weaker (Some causes.Journal) P Q f h = absurd h
+report_weaker (Some (causes.Limit kind n)) P Q f h = absurd h
+report_weaker (Some causes.Done) P Q f h = absurd h
+report_weaker (Some causes.Usage) P Q f h = absurd h
+report_weaker (Some (causes.Script i line why)) P Q f h = absurd h
+report_weaker (Some (causes.Damaged file at)) P Q f h = absurd h
+report_weaker (Some (causes.Profile have asked)) P Q f h = absurd h
+report_weaker (Some (causes.Source i)) P Q f h = absurd h
+
 pub ran_cause : (start : Start) (asked : Asked) (old new : Outside) (cause : Cause) → start.faults ≡ old.devices.journal.faults → Ran start asked old new cause → PlayCause asked.text old new cause
 ran_cause start asked old new cause counted ran =
     let closing = ran.closing in
@@ -112,10 +134,11 @@ ran_cause start asked old new cause counted ran =
     subst (PlayCause asked.text old new) (sym ran.ends)
     (end_cause asked.text old new ran.went.served.fault ran.went.served.sink_failed (sync_cause ran.closed.answer) ran.closed.report
     (ran.short, (ran.commands, ran.says))
-    (weaker ran.went.served.fault (ran.went.place.stopped ≡ true) (JournalRose old.devices new.devices) stays (served_told _ old.sinks new.sinks ran.went ran.served))
-    (sink_told _ old.sinks new.sinks ran.went ran.served)
+    (weaker ran.went.served.fault (ran.went.place.stopped ≡ true) (JournalRose old.devices new.devices) stays (served_told _ old.sinks ran.replied ran.went ran.served))
+    (λ failed. sink_later old.sinks ran.replied new.sinks closing.replies_stay (sink_told _ old.sinks ran.replied ran.went ran.served failed))
     (weaker (sync_cause ran.closed.answer) ((after_sync ran.went.place ran.closed.answer).stopped ≡ true) (JournalRose old.devices new.devices) synced (sync_told ran.went.place ran.closed.answer))
-    closing.report_cause)
+    (report_weaker ran.closed.report (Rose ran.replied.faults new.sinks.faults) (Rose old.sinks.faults new.sinks.faults)
+    (rose_later old.sinks.faults ran.replied.faults new.sinks.faults ran.counted) closing.report_cause))
 
 script_cause : (text : Option (List ℕ)) (old new : Outside) (cause : Cause) → ScriptCause text cause → PlayCause text old new cause
 script_cause text old new (causes.Source i) why = why
@@ -171,14 +194,14 @@ served_on : (run : Run) (old new : SinksTold) (went : Went) → IsServed run old
 served_on run old new went (inl answered) running none taken = run_goes_on run.session run.start run.commands went.text went.served.fault went.served.sink_failed went.place answered.told running none
 served_on run old new went (inr unheard) running none taken = absurd (true≢false (sym (ap (λ (s : Served). s.sink_failed) unheard.served) ∙ taken))
 
-pub is_done : (run : Run) (old new : Outside) (went : Went) (closed : Closed) → IsServed run old.sinks new.sinks went → run.start.stopped ≡ false → IsClosed went.place old new closed
+pub is_done : (run : Run) (old mid : SinksTold) (new : Outside) (went : Went) (closed : Closed) → IsServed run old mid went → run.start.stopped ≡ false → IsClosed went.place mid new closed
     → end_of went.served.fault went.served.sink_failed (sync_cause closed.answer) closed.report ≡ causes.Done → IsDone went closed
-is_done run old new went closed served running closing e =
+is_done run old mid new went closed served running closing e =
     let fault = went.served.fault in
     let failed = went.served.sink_failed in
     let synced = sync_cause closed.answer in
     let rest1 = option_or (sink_cause failed) (option_or synced closed.report) in
-    let no_fault : fault ≡ None = no_line fault rest1 _ (served_told run old.sinks new.sinks went served) e in
+    let no_fault : fault ≡ None = no_line fault rest1 _ (served_told run old mid went served) e in
     let e1 = rest_done fault rest1 no_fault e in
     let taken : failed ≡ false = no_sink failed (option_or synced closed.report) e1 in
     let e2 = rest_done (sink_cause failed) (option_or synced closed.report) (ap sink_cause taken) e1 in
@@ -189,15 +212,15 @@ is_done run old new went closed served running closing e =
       all_taken = taken;
       reported = no_report closed.report _ closing.report_cause e3;
       settled = ap (λ (p : Place). p.waiting) closing.leads
-          ∙ nothing_waits went.place closed.answer (served_on run old.sinks new.sinks went served running no_fault taken) closing.closes no_close;
+          ∙ nothing_waits went.place closed.answer (served_on run old mid went served running no_fault taken) closing.closes no_close;
     }
 
 -- the commands and the closing leave what the opening began with
-pub starts_of : (run : Run) (old new : Outside) (went : Went) (closed : Closed) → IsServed run old.sinks new.sinks went → IsClosed went.place old new closed → closed.place.start ≡ run.start.start
-starts_of run old new went closed (inl answered) closing =
+pub starts_of : (run : Run) (old mid : SinksTold) (new : Outside) (went : Went) (closed : Closed) → IsServed run old mid went → IsClosed went.place mid new closed → closed.place.start ≡ run.start.start
+starts_of run old mid new went closed (inl answered) closing =
     ap (λ (p : Place). p.start) closing.leads ∙ sync_start went.place closed.answer
     ∙ run_start run.session run.start run.commands went.text went.served.fault went.served.sink_failed went.place answered.told
-starts_of run old new went closed (inr unheard) closing =
+starts_of run old mid new went closed (inr unheard) closing =
     ap (λ (p : Place). p.start) closing.leads ∙ sync_start went.place closed.answer ∙ ap (λ (p : Place). p.start) unheard.place
 
 pub taken_all : (fresh taken took : Option (List ℕ)) (text : List ℕ) → IsFresh fresh → TookMore fresh text taken → took ≡ taken → IsTaken took text
@@ -212,72 +235,18 @@ taken_all (Some f) (Some s) (Some t) text unused more same =
 
 -- ---- the whole run
 
--- later calls left what the sinks of clients told
-pub record ClientsKept (old new : SinksTold) : Type 0 where
-  pub names : new.names ≡ old.names
-  pub replies : new.replies ≡ old.replies
-  pub faults : new.reply_faults ≡ old.reply_faults
-  pub never_falls : old.faults ≤ new.faults
-
-rose_still : (a b c : ℕ) → b ≤ c → Rose a b → Rose a c
-rose_still a b c bc rose = omega arith
-
-served_later : (run : Run) (old mid new : SinksTold) (went : Went) → ClientsKept mid new → IsServed run old mid went → IsServed run old new went
-served_later run old mid new went kept (inl answered) = inl (record {
-  told = answered.told;
-  shown = answered.shown;
-  numbered = answered.numbered;
-  taken = subst (λ (t : Option (List ℕ)). IsTaken t went.text) (sym kept.replies) answered.taken;
-  failed = λ failed. subst (λ (n : ℕ). Rose 0 n) (sym kept.faults) (answered.failed failed);
-  names = kept.names ∙ answered.names;
-})
-served_later run old mid new went kept (inr unheard) = inr (record {
-  cause = rose_still old.faults mid.faults new.faults kept.never_falls unheard.cause;
-  no_reply = kept.replies ∙ unheard.no_reply;
-  no_text = unheard.no_text;
-  served = unheard.served;
-  place = unheard.place;
-  names = kept.names ∙ unheard.names;
-})
-
-report_weaker : (cause : Option Cause) (P Q : Type 0) → (P → Q) → ReportCause P cause → ReportCause Q cause
-report_weaker None P Q f h = tt
-report_weaker (Some causes.Memory) P Q f h = tt
-report_weaker (Some (causes.Sink i)) P Q f h = (h.0, f h.1)
-report_weaker (Some causes.Journal) P Q f h = absurd h
-report_weaker (Some (causes.Limit kind n)) P Q f h = absurd h
-report_weaker (Some causes.Done) P Q f h = absurd h
-report_weaker (Some causes.Usage) P Q f h = absurd h
-report_weaker (Some (causes.Script i line why)) P Q f h = absurd h
-report_weaker (Some (causes.Damaged file at)) P Q f h = absurd h
-report_weaker (Some (causes.Profile have asked)) P Q f h = absurd h
-report_weaker (Some (causes.Source i)) P Q f h = absurd h
-
--- a closing, told from an earlier time on
-closed_since : (p : Place) (old mid new : Outside) (closed : Closed) → mid.sinks.report ≡ old.sinks.report → old.sinks.faults ≤ mid.sinks.faults → IsClosed p mid new closed → IsClosed p old new closed
-closed_since p old mid new closed same later is = record {
-  closes = is.closes;
-  leads = is.leads;
-  halted = is.halted;
-  reports = subst (λ (r : Option (List ℕ)). Reports (last_number (all_of closed.place)) closed.report r new.sinks.report) same is.reports;
-  report_cause = report_weaker closed.report (Rose mid.sinks.faults new.sinks.faults) (Rose old.sinks.faults new.sinks.faults)
-      (rose_later old.sinks.faults mid.sinks.faults new.sinks.faults later) is.report_cause;
-  left = is.left;
-}
-
 pub ran_of : (start : Start) (asked : Asked) (old mid new : Outside) (cause : Cause) (session : ℕ) (commands : List Command) (name : List ℕ) (went : Went) (closed : Closed)
-    → IsWithin asked.text 16777216 → Says asked.text commands → (IsTrue old.devices.tells → IsNext start.base old.devices.journal.seen session)
+    → IsWithin asked.text 16777216 → Says asked.text commands → (IsTrue old.devices.tells → IsNext old.devices.journal.seen session)
+    → last_number start.base < session * 2 ^ 40 → session ≤ 8388607
     → new.devices.directories ≡ after_opening (after_choice asked.dir old.devices.directories) → name ≡ replies_name asked.file
     → IsServed (record { session = session; start = opened start; name = name; commands = commands }) old.sinks mid.sinks went
-    → IsClosed went.place mid new closed → ClientsKept mid.sinks new.sinks → mid.sinks.report ≡ old.sinks.report → old.sinks.faults ≤ mid.sinks.faults
+    → IsClosed went.place mid.sinks new closed → mid.sinks.report ≡ old.sinks.report → old.sinks.faults ≤ mid.sinks.faults
     → cause ≡ end_of went.served.fault went.served.sink_failed (sync_cause closed.answer) closed.report → TablesStay old.devices.tables new.devices.tables
     → Ran start asked old new cause
-ran_of start asked old mid new cause session commands name went closed short says next directory named served closing kept same later ends tables =
+ran_of start asked old mid new cause session commands name went closed short says next above possible directory named served closing same later ends tables =
     let run : Run = record { session = session; start = opened start; name = replies_name asked.file; commands = commands } in
-    let all : IsServed run old.sinks new.sinks went =
-    subst (λ (n : List ℕ). IsServed (record { session = session; start = opened start; name = n; commands = commands }) old.sinks new.sinks went) named
-    (served_later (record { session = session; start = opened start; name = name; commands = commands }) old.sinks mid.sinks new.sinks went kept served) in
-    let closes = closed_since went.place old mid new closed same later closing in
+    let all : IsServed run old.sinks mid.sinks went =
+    subst (λ (n : List ℕ). IsServed (record { session = session; start = opened start; name = n; commands = commands }) old.sinks mid.sinks went) named served in
     record {
       session = session;
       commands = commands;
@@ -286,12 +255,17 @@ ran_of start asked old mid new cause session commands name went closed short say
       short = short;
       says = says;
       next = next;
+      above = above;
+      possible = possible;
       directory = directory;
+      replied = mid.sinks;
       served = all;
-      starts = starts_of run old new went closed all closes;
-      closing = closes;
+      unreported = same;
+      counted = later;
+      starts = starts_of run old.sinks mid.sinks new went closed all closing;
+      closing = closing;
       ends = ends;
-      done = λ done. is_done run old new went closed all refl closes (sym ends ∙ done);
+      done = λ done. is_done run old.sinks mid.sinks new went closed all refl closing (sym ends ∙ done);
       tables = tables;
     }
 
@@ -330,7 +304,7 @@ end_after None false None (Some cause) P Q R line close last before = report_aft
 end_after None false None None P Q R line close last before = before
 
 -- a run ends with no cause that is told before an opening
-pub ran_after : (run : Run) (old mid new : Outside) (went : Went) (closed : Closed) (cause : Cause) → IsServed run old.sinks mid.sinks went → IsClosed went.place mid new closed
+pub ran_after : (run : Run) (old mid new : Outside) (went : Went) (closed : Closed) (cause : Cause) → IsServed run old.sinks mid.sinks went → IsClosed went.place mid.sinks new closed
     → cause ≡ end_of went.served.fault went.served.sink_failed (sync_cause closed.answer) closed.report → IsBeforeOpening cause → ⊥
 ran_after run old mid new went closed cause served closing ends before =
     end_after went.served.fault went.served.sink_failed (sync_cause closed.answer) closed.report _ _ _

@@ -64,7 +64,7 @@ pub record IsAnswered (run : Run) (old new : SinksTold) (went : Went) : Type 0 w
   pub failed : IsTrue went.served.sink_failed → Rose 0 new.reply_faults
   pub names : new.names ≡ after_return 1 (replies_label run.name) (after_client old.names)
 
--- the sink of the replies couldn't be opened, and no command was run
+-- the sink of the replies couldn't be opened, and no command was run; a report's fault comes later
 pub record IsUnheard (run : Run) (old new : SinksTold) (went : Went) : Type 0 where
   pub cause : Rose old.faults new.faults
   pub no_reply : new.replies ≡ old.replies
@@ -76,6 +76,13 @@ pub record IsUnheard (run : Run) (old new : SinksTold) (went : Went) : Type 0 wh
 -- the commands were run, or the sink of their replies couldn't be opened
 abbrev pub IsServed : Run → SinksTold → SinksTold → Went → Type 0
 IsServed run old new went = IsAnswered run old new went ⊎ IsUnheard run old new went
+
+-- later calls left what the sinks tell of replies, and counted no fewer faults
+pub record RepliesStay (old new : SinksTold) : Type 0 where
+  pub names : new.names ≡ old.names
+  pub replies : new.replies ≡ old.replies
+  pub reply_faults : new.reply_faults ≡ old.reply_faults
+  pub never_falls : old.faults ≤ new.faults
 
 -- ---- the closing
 
@@ -90,32 +97,34 @@ pub record Closed : Type 0 where
 unfoldable pub run_report : ℕ → List ℕ
 run_report last = report_text last 3
 
--- the report was taken, or some first bytes of it where there is a fault
+-- the report was taken; or, where there is a fault, some first bytes of it, all or none
 abbrev pub Reports : ℕ → Option Cause → Option (List ℕ) → Option (List ℕ) → Type 0
 Reports last None old new = TookMore old (run_report last) new
 Reports last (Some cause) old new = (k : ℕ) × TookMore old (take k (run_report last)) new
 
--- a store that stood at this place was synced and handed back, and then the report was written
-pub record IsClosed (answered : Place) (old new : Outside) (closed : Closed) : Type 0 where
+-- a store that stood at this place was synced and handed back, and then the report was written to sinks that told this
+-- until then
+pub record IsClosed (answered : Place) (before : SinksTold) (new : Outside) (closed : Closed)
+    : Type 0 where
   -- the closing sync
   pub closes : Syncs answered closed.answer
   pub leads : closed.place ≡ after_sync answered closed.answer
   pub halted : closed.place.stopped ≡ true
       → Rose closed.place.start.faults new.devices.journal.faults
   -- the report
-  pub reports : Reports (last_number (all_of closed.place)) closed.report old.sinks.report new.sinks.report
-  pub report_cause : ReportCause (Rose old.sinks.faults new.sinks.faults) closed.report
+  pub reports : Reports (last_number (all_of closed.place)) closed.report before.report new.sinks.report
+  pub report_cause : ReportCause (Rose before.faults new.sinks.faults) closed.report
+  pub replies_stay : RepliesStay before new.sinks
   -- what a crash leaves
   pub left : IsTrue new.devices.tells → IsLeftBy closed.place new.devices.journal
 
 -- ---- the whole
 
--- the session after the greatest one of the image's logs, whose numbers are above those of the base
-pub record IsNext (base : Batches) (seen : Image) (session : ℕ) : Type 0 where
+-- the session after the greatest one of the image's logs
+pub record IsNext (seen : Image) (session : ℕ) : Type 0 where
   pub logs : List Held
   pub holds : HoldsLogs 1 logs seen
   pub after : session ≡ suc (greatest_session logs)
-  pub above : last_number base < session * 2 ^ 40
 
 -- at status 0 each command was answered without a fault, the report is whole, and no batch waits
 pub record IsDone (went : Went) (closed : Closed) : Type 0 where
@@ -133,16 +142,21 @@ pub record Ran (start : Start) (asked : Asked) (old new : Outside) (cause : Caus
   -- what was opened
   pub short : IsWithin asked.text 16777216
   pub says : Says asked.text commands
-  pub next : IsTrue old.devices.tells → IsNext start.base old.devices.journal.seen session
+  pub next : IsTrue old.devices.tells → IsNext old.devices.journal.seen session
+  pub above : last_number start.base < session * 2 ^ 40
+  pub possible : session ≤ 8388607
   pub directory : new.devices.directories
       ≡ after_opening (after_choice asked.dir old.devices.directories)
-  -- what was replied
+  -- what was replied, and what the sinks told when it was
+  pub replied : SinksTold
   pub served : IsServed
       (record { session = session; start = opened start; name = replies_name asked.file; commands = commands })
-      old.sinks new.sinks went
+      old.sinks replied went
+  pub unreported : replied.report ≡ old.sinks.report
+  pub counted : old.sinks.faults ≤ replied.faults
   -- how it ended
   pub starts : closed.place.start ≡ start
-  pub closing : IsClosed went.place old new closed
+  pub closing : IsClosed went.place replied new closed
   pub ends : cause
       ≡ end_of went.served.fault went.served.sink_failed (sync_cause closed.answer) closed.report
   pub done : cause ≡ causes.Done → IsDone went closed
@@ -155,13 +169,16 @@ pub record NotOpened (asked : Asked) (old new : Outside) (cause : Cause) : Type 
   pub directory : OpensAtMost asked.dir old.devices.directories new.devices.directories
   -- nothing was replied or reported
   pub sinks : new.sinks ≡ old.sinks
-  -- but for a fault of the journal, no file was changed
+  -- but for a fault of the journal, no file of it was changed
   pub untouched : cause ≢ causes.Journal → HasWatched old.devices.journal new.devices.journal
-  -- and no crash since lost what was there
+  -- and no crash since lost what was there, nor does one now
   pub ever : IsTrue old.devices.tells → (base : Batches)
       → OpensOn Small true base old.devices.journal.seen old.devices.journal.may_leave
-      → (image : Image)
-      → new.devices.journal.left_since old.devices.journal.moment image → Stands Small base image
+      → (image : Image) → new.devices.journal.left_since old.devices.journal.moment image
+      → Stands Small base image
+  pub now : IsTrue old.devices.tells → (base : Batches)
+      → OpensOn Small true base old.devices.journal.seen old.devices.journal.may_leave
+      → (image : Image) → new.devices.journal.may_leave image → Stands Small base image
   pub tables : TablesStay old.devices.tables new.devices.tables
 
 -- the script was run over a store that was opened so, or no store was opened

@@ -1,4 +1,4 @@
-ghost use Rattle.std.specs.Prelude.{◌≡◌, ◌≢◌, ◌⊎◌, ◌≤◌, ℕ, Bool, true, false, IsTrue, IfOk, IfErr, OnOk, OnErr};
+ghost use Rattle.std.specs.Prelude.{◌≡◌, ◌≢◌, ◌⊎◌, ◌≤◌, ◌<◌, ◌*◌, ◌^◌, ℕ, Bool, true, false, IsTrue, IfOk, IfErr, OnOk, OnErr};
 ghost use Rattle.peb_base.specs.declared.profile.Profile.TheVariants.{Small};
 ghost use Rattle.peb_base.specs.Batches.{Batches, last_number};
 ghost use Rattle.disk_model.specs.Directories.{after_choice, after_opening};
@@ -45,12 +45,14 @@ pub fn open_store<D: Devices>(
     ensures stands { IfOk result (λ state. IsTrue D.J.tells → (honest : Bool) (base : Batches)
         → OpensOn Small honest base (D.journal_told devices.old).seen (D.journal_told devices.old).may_leave
         → IsAt D.J.Journal state (opened (start_at (D.journal_told devices.old) Small honest base))
-        × IsNext base (D.journal_told devices.old).seen (state_session state)) }
+        × IsNext (D.journal_told devices.old).seen (state_session state)
+        × (last_number base < state_session state * 2 ^ 40)) }
     ensures somewhere { IfOk result (λ state. (base : Batches)
-        × ((IsTrue D.J.tells → ReadsAs Small base (D.journal_told devices.old).seen)
+        × (IsTrue D.J.tells → ReadsAs Small base (D.journal_told devices.old).seen)
         × IsAt D.J.Journal state (opened (start_at (D.journal_told devices.old) Small false base))
-        × (IsTrue D.J.tells
-        → IsNext base (D.journal_told devices.old).seen (state_session state)))) }
+        × (IsTrue D.J.tells → IsNext (D.journal_told devices.old).seen (state_session state))
+        × (last_number base < state_session state * 2 ^ 40)) }
+    ensures possible { IfOk result (λ state. state_session state ≤ 8388607) }
     ensures opened { OnOk result (D.directories devices.new
         ≡ after_opening (after_choice dir.now (D.directories devices.old))) }
     // when it fails
@@ -66,6 +68,8 @@ pub fn open_store<D: Devices>(
         → (image : Image)
         → (D.journal_told devices.new).left_since (D.journal_told devices.old).moment image
         → Stands Small base image) }
+    ensures later { IfErr result (λ _. (D.journal_told devices.old).moment
+        ≤ (D.journal_told devices.new).moment) }
     ensures tables { TablesStay (D.tables_told devices.old) (D.tables_told devices.new) }
 {
     let Ok(()) = devices.set(dir) else {

@@ -1,14 +1,13 @@
 ghost use Rattle.std.specs.Prelude.{◌≡◌, ◌≤◌, ℕ, List, Bool, true, false, IsTrue, IfOk, Option, string_bytes};
 ghost use Rattle.peb_base.specs.declared.profile.Profile.TheVariants.{Small};
 ghost use Rattle.peb_base.specs.Batches.{Batches};
-ghost use Rattle.disk_model.specs.Replies.{ClientsStay};
 ghost use Rattle.disk_model.specs.Told.{TablesStay};
 ghost use Rattle.flsm_core.specs.Opening.{OpensOn};
 ghost use Rattle.flsm_core.specs.Place.{Place, start_at};
 ghost use Rattle.flsm_core.specs.Standing.{IsAt};
 ghost use Rattle.pebbles_cli.specs.Causes.{IsBeforeOpening, Says, end_of};
 ghost use Rattle.pebbles_cli.specs.Names.{replies_name};
-ghost use Rattle.pebbles_cli.specs.Outside.{outside};
+ghost use Rattle.pebbles_cli.specs.Outside.{outside, sinks_told};
 ghost use Rattle.pebbles_cli.specs.Read.{IsWithin};
 ghost use Rattle.pebbles_cli.specs.Tells.{sync_cause};
 ghost use Rattle.pebbles_cli.specs.Top.{Asked, Closed, IsClosed, Plays, PlaysSomehow};
@@ -55,13 +54,11 @@ fn close_run<D: Devices, K: Sinks>(
 ) -> Cause
     requires { (p : Place) × IsAt D.J.Journal opened p }
     // what it leaves
-    ensures closed { (p : Place) → IsAt D.J.Journal opened p → (closed : Closed) × (IsClosed p
-        (outside D.J.Journal D.Devices K.Sinks devices.old sinks.old)
+    ensures closed { (p : Place) → IsAt D.J.Journal opened p → (closed : Closed)
+        × (IsClosed p (sinks_told K.Sinks sinks.old)
         (outside D.J.Journal D.Devices K.Sinks devices.new sinks.new) closed
         × (result ≡ end_of served.fault served.sink_failed (sync_cause closed.answer) closed.report)) }
     // what stays
-    ensures clients { ClientsStay K.Sinks sinks.old sinks.new }
-    ensures never_falls { K.faults sinks.old ≤ K.faults sinks.new }
     ensures directories { D.directories devices.new ≡ D.directories devices.old }
     ensures faults { D.faults devices.new ≡ D.faults devices.old }
     ensures tables { TablesStay (D.tables_told devices.old) (D.tables_told devices.new) }

@@ -16,7 +16,7 @@ returns-in-Err-clause-cause g c = λ logs batches is begins.
     subst (λ fault. OpenCause (Rose (g.J.Journal.faults c.args.journal.now) (g.J.Journal.faults c.open.new.journal)) g.J.Journal.tells (g.J.Journal.seen c.args.journal.now) c.args.profile fault)
     (sym c.fault_of.ensures)
     (open_refused c.one_reading.ensures.finished c.one_reading.ensures.one_log c.one_reading.ensures.undamaged _ g.J.Journal.tells (g.J.Journal.seen c.args.journal.now) c.args.profile
-    (c.args.found.logs + 1) logs c.in-Err.fault size begins (λ e. c.in-Err.ensures.fault (ap Err e)) c.in-Err.ensures.damaged)
+    (c.args.found.logs + 1) logs c.in-Err.fault size is.same begins (λ e. c.in-Err.ensures.fault (ap Err e)) c.in-Err.ensures.damaged)
 
 pub returns-in-Ok-clause-more : goal.returns-in-Ok-clause-more
 returns-in-Ok-clause-more g c = λ more logs batches is begins.

@@ -1,4 +1,4 @@
-use Rattle.std.proofs.Common.{◌≡◌, ◌*◌, ◌^◌, ◌<◌, Bool, sym, subst}
+use Rattle.std.proofs.Common.{◌≡◌, Bool, sym, subst}
 use Rattle.peb_base.specs.declared.profile.Profile.TheVariants.{Small}
 use Rattle.disk_model.specs.Told.{told_by}
 use Rattle.flsm_core.specs.Place.{Start, opened}
@@ -16,6 +16,6 @@ returns-in-Ok-open-clause-stands g c = λ told honest base on.
     let state = c.in-Ok-open.state in (
       subst (λ (s : Start). IsAt g.D.J.Journal state (opened s)) (starts_same old mid Small honest base same)
           (c.in-Ok-open.ensures.stands told honest base (opens_same old mid honest Small base same on)),
-      next_of base old.seen mid.seen (state_session state) same.bytes (c.in-Ok-open.ensures.session told)
-          (c.in-Ok-open.ensures.fresh told base (subst (ReadsAs Small base) (sym same.bytes) (opens_read honest Small base old (g.met.D.Devices.read_is_left c.args.devices.now told) on))),
+      next_of old.seen mid.seen (state_session state) same.bytes (c.in-Ok-open.ensures.session told),
+      c.in-Ok-open.ensures.fresh told base (subst (ReadsAs Small base) (sym same.bytes) (opens_read honest Small base old (g.met.D.Devices.read_is_left c.args.devices.now told) on)),
     )

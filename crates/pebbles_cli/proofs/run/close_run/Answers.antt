@@ -19,6 +19,12 @@ returns-clause-closed g c = λ p at.
           halted = λ stopped. subst (λ (n : ℕ). Rose q.start.faults n) (sym c.close_store.ensures.told.count) (settled.3.halted stopped);
           reports = subst (λ (n : ℕ). Reports n report (g.K.Sinks.reported c.args.sinks.now) (g.K.Sinks.reported c.write_report-report.new.sinks)) (c.last-last.ensures q settled.3) c.write_report-report.ensures.reports;
           report_cause = c.write_report-report.ensures.cause;
+          replies_stay = record {
+            names = c.write_report-report.ensures.clients.names;
+            replies = c.write_report-report.ensures.clients.took 1;
+            reply_faults = c.write_report-report.ensures.clients.faults 1;
+            never_falls = c.write_report-report.ensures.never_falls;
+          };
           left = λ told. c.close_store.ensures.left told q settled.3;
         },
         c.end_of.ensures ∙ ap (λ (o : Option Cause). end_of c.args.served.fault c.args.served.sink_failed o report) settled.2,

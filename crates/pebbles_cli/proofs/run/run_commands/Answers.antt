@@ -35,6 +35,7 @@ returns-in-Err-clause-ran g c = λ told text short says honest base on. inl (rec
   sinks = refl;
   untouched = c.in-Err.ensures.untouched;
   ever = c.in-Err.ensures.ever;
+  now = λ t base on image left. c.in-Err.ensures.ever t base on image (g.met.D.Devices.counts_now c.open_store.new.devices _ image c.in-Err.ensures.later left);
   tables = c.open_store.ensures.tables;
 })
 
@@ -45,6 +46,7 @@ returns-in-Err-clause-somehow g c = λ text short says. inl (record {
   sinks = refl;
   untouched = c.in-Err.ensures.untouched;
   ever = c.in-Err.ensures.ever;
+  now = λ t base on image left. c.in-Err.ensures.ever t base on image (g.met.D.Devices.counts_now c.open_store.new.devices _ image c.in-Err.ensures.later left);
   tables = c.open_store.ensures.tables;
 })
 
@@ -61,9 +63,8 @@ returns-clause-ran g c = λ told text short says honest base on.
     let state = c.in-Ok-open_store.ensures.stands told honest base on in
     let served = c.serve_client-served.ensures.served (opened start) state.0 in
     let closed = c.close_run.ensures.closed served.0.place served.1.0 in
-    inr (ran_of start _ old mid new c.close_run.result (state_session c.in-Ok-open_store.state) c.args.commands.items c.as_str.result.now served.0 closed.0 short says (λ t. state.1)
-    (c.close_run.ensures.directories ∙ c.in-Ok-open_store.ensures.opened) (c.as_str.ensures.value ∙ c.in-Ok.ensures) served.1.2 closed.1.0
-    (record { names = c.close_run.ensures.clients.names; replies = c.close_run.ensures.clients.took 1; faults = c.close_run.ensures.clients.faults 1; never_falls = c.close_run.ensures.never_falls })
+    inr (ran_of start _ old mid new c.close_run.result (state_session c.in-Ok-open_store.state) c.args.commands.items c.as_str.result.now served.0 closed.0 short says (λ t. state.1) state.2
+    c.in-Ok-open_store.ensures.possible (c.close_run.ensures.directories ∙ c.in-Ok-open_store.ensures.opened) (c.as_str.ensures.value ∙ c.in-Ok.ensures) served.1.2 closed.1.0
     c.serve_client-served.ensures.report c.serve_client-served.ensures.never_falls
     (closed.1.1 ∙ ap (λ (s : Served). end_of s.fault s.sink_failed (sync_cause closed.0.answer) closed.0.report) (sym served.1.1))
     (tables_then c.open_store.ensures.tables c.close_run.ensures.tables))
@@ -75,15 +76,14 @@ returns-clause-somehow g c = λ text short says.
     let new = outside g.D.J.Journal g.D.Devices g.K.Sinks c.close_run.new.devices c.close_run.new.sinks in
     let state = c.in-Ok-open_store.ensures.somewhere in
     let start : Start = start_at old.devices.journal Small false state.0 in
-    let served = c.serve_client-served.ensures.served (opened start) state.1.1 in
+    let served = c.serve_client-served.ensures.served (opened start) state.2 in
     let closed = c.close_run.ensures.closed served.0.place served.1.0 in
     inr (
       state.0,
       (
-        state.1.0,
-        ran_of start _ old mid new c.close_run.result (state_session c.in-Ok-open_store.state) c.args.commands.items c.as_str.result.now served.0 closed.0 short says state.1.2
+        state.1,
+        ran_of start _ old mid new c.close_run.result (state_session c.in-Ok-open_store.state) c.args.commands.items c.as_str.result.now served.0 closed.0 short says state.3 state.4 c.in-Ok-open_store.ensures.possible
             (c.close_run.ensures.directories ∙ c.in-Ok-open_store.ensures.opened) (c.as_str.ensures.value ∙ c.in-Ok.ensures) served.1.2 closed.1.0
-            (record { names = c.close_run.ensures.clients.names; replies = c.close_run.ensures.clients.took 1; faults = c.close_run.ensures.clients.faults 1; never_falls = c.close_run.ensures.never_falls })
             c.serve_client-served.ensures.report c.serve_client-served.ensures.never_falls
             (closed.1.1 ∙ ap (λ (s : Served). end_of s.fault s.sink_failed (sync_cause closed.0.answer) closed.0.report) (sym served.1.1))
             (tables_then c.open_store.ensures.tables c.close_run.ensures.tables),
@@ -97,7 +97,7 @@ returns-clause-after_opening g c = λ before.
     let new = outside g.D.J.Journal g.D.Devices g.K.Sinks c.close_run.new.devices c.close_run.new.sinks in
     let state = c.in-Ok-open_store.ensures.somewhere in
     let start : Start = start_at old.devices.journal Small false state.0 in
-    let served = c.serve_client-served.ensures.served (opened start) state.1.1 in
+    let served = c.serve_client-served.ensures.served (opened start) state.2 in
     let closed = c.close_run.ensures.closed served.0.place served.1.0 in
     ran_after _ old mid new served.0 closed.0 c.close_run.result served.1.2 closed.1.0
     (closed.1.1 ∙ ap (λ (s : Served). end_of s.fault s.sink_failed (sync_cause closed.0.answer) closed.0.report) (sym served.1.1)) before

@@ -6,7 +6,7 @@ use Rattle.flsm_core.specs.Logs.{Reads, ReadsAs, Stands}
 use Rattle.flsm_core.specs.Opening.{AreKept, IsFound, HasWatched}
 use Rattle.flsm_core.specs.Place.{opened, start_at}
 use Rattle.flsm_core.specs.Standing.{IsAt}
-use Rattle.flsm_core.proofs.Openings.{Read, same_base, has_read, base_read, each_stands, if_ok, if_err}
+use Rattle.flsm_core.proofs.Openings.{Read, same_base, has_read, base_read, if_ok, if_both, if_err}
 use Rattle.flsm_core.proofs.state.State.open.Goals as goal
 
 -- the base is what the reading found, so the start that was asked for is that of what was found
@@ -33,7 +33,7 @@ returns-in-Ok-clause-stands g c = if_ok c.begin.result _ _ (λ state at told hon
     c.begin.ensures.stands
 
 pub returns-in-Ok-clause-somewhere : goal.returns-in-Ok-clause-somewhere
-returns-in-Ok-clause-somewhere g c = if_ok c.begin.result _ _ (λ state at.
+returns-in-Ok-clause-somewhere g c = if_both c.begin.result _ _ _ (λ state at session.
     let d = g.J.Journal in
     let found = c.in-Ok.ensures.found in
     let reads : IsTrue d.tells → Reads c.args.profile (d.seen c.args.journal) found.0 found.1 = λ told.
@@ -50,8 +50,11 @@ returns-in-Ok-clause-somewhere g c = if_ok c.begin.result _ _ (λ state at.
       at (start_at (told_by d c.args.journal) c.args.profile false found.1) found.0 refl found.2
           (has_read c.one_reading.ensures.finished c.one_reading.ensures.one_log c.one_batch.ensures d c.args.journal c.read_logs.new.journal c.args.profile false found.0 found.1
           read c.read_logs.ensures.watched c.read_logs.ensures.later (λ told. (found.0, reads told))),
+      (let last : c.in-Ok.found.replay.last ≡ last_number found.1 = found.2.replay.last in
+          let below : c.in-Ok.found.replay.last < (c.in-Ok.found.greatest + 1) * 2 ^ 40 = c.in-Ok.found.within in
+          omega (arith, last, below, session)),
     ))
-    c.begin.ensures.stands
+    c.begin.ensures.stands c.begin.ensures.session
 
 pub returns-in-Ok-clause-fresh : goal.returns-in-Ok-clause-fresh
 returns-in-Ok-clause-fresh g c = if_ok c.begin.result _ _ (λ state session told base reads.
@@ -98,3 +101,9 @@ returns-in-Ok-clause-images g c = if_err c.begin.result _ _ (λ e images told ba
 
 pub returns-in-Err-clause-images : goal.returns-in-Err-clause-images
 returns-in-Err-clause-images g c = λ told base on image left. on image (c.read_logs.ensures.watched.each image left)
+
+pub returns-in-Ok-clause-possible : goal.returns-in-Ok-clause-possible
+returns-in-Ok-clause-possible g c = if_ok c.begin.result _ _ (λ state session. omega (arith, session, c.in-Ok.found.possible)) c.begin.ensures.session
+
+pub returns-in-Ok-clause-time : goal.returns-in-Ok-clause-time
+returns-in-Ok-clause-time g c = if_err c.begin.result _ _ (λ e later. omega (arith, later, c.read_logs.ensures.watched.time.later)) c.begin.ensures.time
