@@ -1,7 +1,7 @@
 -- Events that no legal history has, and the same at their limits, which it may have.
-use Rattle.std.proofs.Common.{◌≡◌, ℕ, true, List, [], ◌∷◌, Some, None, refl, sym, arith}
+use Rattle.std.proofs.Common.{false, ◌≡◌, ℕ, true, List, [], ◌∷◌, Some, None, refl, sym, arith}
 use Rattle.std.specs.Prelude.{replicate}
-use Rattle.std.proofs.lemmas.Bool.{true≢false}
+use Rattle.std.proofs.lemmas.Bool.{true≢false, false≢true}
 use Rattle.std.proofs.lemmas.List.{length-replicate}
 use Rattle.peb_base.specs.Tables.{table_length}
 use Rattle.peb_base.specs.declared.change.Change.TheVariants.{Put}
@@ -114,11 +114,18 @@ flushing = Freeze (n 1) ∷ Begin 2 (flush 1) ∷ []
 
 a_short_at_the_limit : May flushing (Short 2 Fault 111)
 unfolding table_length
-a_short_at_the_limit = omega arith
+a_short_at_the_limit told = omega arith
 
 no_short_above_it : May flushing (Short 2 Fault 112) → ⊥
 unfolding table_length
-no_short_above_it h = omega (arith, h)
+no_short_above_it h = omega (arith, h refl)
+
+-- where nothing is known of contents, there is no such bound
+abbrev silent : Standing
+silent = run small (base false small [] []) (Opened 1 1 ∷ Commit 1 (n 1) (one_put ∷ []) ∷ flushing)
+
+a_short_of_unknown_tables : Allowed small silent silent.session (Short 2 Fault 112)
+a_short_of_unknown_tables told = absurd (false≢true told)
 
 -- ---- rows
 
