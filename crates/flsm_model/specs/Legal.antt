@@ -51,7 +51,7 @@ AllowedIn o w n (Begin actor job) =
 AllowedIn o w n (Done actor e) =
     (n.faulted ≡ None) × IsSomeAnd (job_of n.running actor) (λ j. IsOutcome o w n j e)
 AllowedIn o w n (Short actor cause bytes) =
-    IsSomeAnd (job_of n.running actor) (λ j. bytes ≤ total (table_length o) (outcome o w n j))
+    IsSomeAnd (job_of n.running actor) (λ j. w.told ≡ true → bytes ≤ total (table_length o) (outcome o w n j))
 AllowedIn o w n JournalFault = n.faulted ≡ None
 AllowedIn o w n (Stop m e) = (is_boundary m w.batches ≡ true) × (n.stable ≤ m) × MayStopWith o w n e
 

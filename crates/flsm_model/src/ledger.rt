@@ -83,7 +83,7 @@ impl Ledger {
     }
 
     /// Counts a row at its level.
-    #[tactic(auto, using(crate::proofs::Counting::counts_row))]
+    #[tactic(auto, using(crate::proofs::lists::Counting::counts_row))]
     fn count_row(&mut self, row: &TableRow)
         requires { row.now.level < length self.old }
         ensures levels { length self.new ≡ length self.old }
@@ -96,7 +96,7 @@ impl Ledger {
     }
 
     /// Counts a row that a Cut wrote at its level.
-    #[tactic(auto, using(crate::proofs::Counting::counts_cut_row))]
+    #[tactic(auto, using(crate::proofs::lists::Counting::counts_cut_row))]
     fn count_cut_row(&mut self, row: &TableRow)
         requires { row.now.level < length self.old }
         ensures levels { length self.new ≡ length self.old }

@@ -35,7 +35,7 @@ pub struct Shape {
 }
 
 /// So many levels without guards.
-#[tactic(auto, using(crate::proofs::Copied::replicate_push))]
+#[tactic(auto, using(crate::proofs::lists::Copied::replicate_push))]
 fn no_guards(alloc: Global, levels: u8) -> Result<Vec<List<Key>>, Memory>
     ensures { IfOk result (λ guards. guards.items ≡ replicate levels []) }
 {

@@ -1,6 +1,6 @@
-use Rattle.flsm_model.proofs.Truth.{written_once}
-use Rattle.flsm_model.proofs.Places.{record_bound}
-use Rattle.flsm_model.proofs.LastLevel.{written_by_merges}
+use Rattle.flsm_model.proofs.histories.Truth.{written_once}
+use Rattle.flsm_model.proofs.contents.Places.{record_bound}
+use Rattle.flsm_model.proofs.contents.LastLevel.{written_by_merges}
 use Rattle.flsm_model.proofs.laws.law_bound.Goals as goal
 
 pub returns : goal.returns

@@ -1,5 +1,5 @@
-use Rattle.flsm_model.proofs.Needs.{candidates-meet}
-use Rattle.flsm_model.proofs.Picks.{chosen_in_order, ascending_are_equal}
+use Rattle.flsm_model.proofs.picking.Needs.{candidates-meet}
+use Rattle.flsm_model.proofs.picking.Picks.{chosen_in_order, ascending_are_equal}
 use Rattle.flsm_model.proofs.laws.law_candidates.Goals as goal
 
 pub returns : goal.returns

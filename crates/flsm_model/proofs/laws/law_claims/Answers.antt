@@ -1,4 +1,4 @@
-use Rattle.flsm_model.proofs.Picks.{free_by_claims}
+use Rattle.flsm_model.proofs.picking.Picks.{free_by_claims}
 use Rattle.flsm_model.proofs.laws.law_claims.Goals as goal
 
 pub returns : goal.returns

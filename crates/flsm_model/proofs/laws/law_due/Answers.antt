@@ -1,4 +1,4 @@
-use Rattle.flsm_model.proofs.Lawful.{picked_is_lawful}
+use Rattle.flsm_model.proofs.picking.Lawful.{picked_is_lawful}
 use Rattle.flsm_model.proofs.laws.law_due.Goals as goal
 
 pub returns : goal.returns

@@ -1,4 +1,4 @@
-use Rattle.flsm_model.proofs.Whole.{empty_is_true, fronts_are_legal}
+use Rattle.flsm_model.proofs.histories.Whole.{empty_is_true, fronts_are_legal}
 use Rattle.flsm_model.proofs.laws.law_fronts.Goals as goal
 
 pub returns : goal.returns

@@ -1,4 +1,4 @@
-use Rattle.flsm_model.proofs.Picks.{idle_has_room}
+use Rattle.flsm_model.proofs.picking.Picks.{idle_has_room}
 use Rattle.flsm_model.proofs.laws.law_idle.Goals as goal
 
 pub returns : goal.returns

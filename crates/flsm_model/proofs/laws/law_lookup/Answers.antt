@@ -1,4 +1,4 @@
-use Rattle.flsm_model.proofs.Tables.{newest_is_shown}
+use Rattle.flsm_model.proofs.contents.Tables.{newest_is_shown}
 use Rattle.flsm_model.proofs.laws.law_lookup.Goals as goal
 
 pub returns : goal.returns

@@ -1,5 +1,5 @@
-use Rattle.flsm_model.proofs.MapBase.{map_holds}
-use Rattle.flsm_model.proofs.MapList.{map_shows}
+use Rattle.flsm_model.proofs.contents.MapBase.{map_holds}
+use Rattle.flsm_model.proofs.contents.MapList.{map_shows}
 use Rattle.flsm_model.proofs.laws.law_map.Goals as goal
 
 pub returns : goal.returns

@@ -1,4 +1,4 @@
-use Rattle.flsm_model.proofs.Whole.{marks_in_order}
+use Rattle.flsm_model.proofs.histories.Whole.{marks_in_order}
 use Rattle.flsm_model.proofs.laws.law_marks.Goals as goal
 
 pub returns : goal.returns

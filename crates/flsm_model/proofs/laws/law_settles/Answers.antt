@@ -1,5 +1,5 @@
-use Rattle.flsm_model.proofs.Settling.{edits_settle, measure_falls}
-use Rattle.flsm_model.proofs.Conserved.{outcomes_conserve}
+use Rattle.flsm_model.proofs.histories.Settling.{edits_settle, measure_falls}
+use Rattle.flsm_model.proofs.contents.Conserved.{outcomes_conserve}
 use Rattle.flsm_model.proofs.laws.law_settles.Goals as goal
 
 pub returns : goal.returns

@@ -1,6 +1,6 @@
-use Rattle.flsm_model.proofs.ShapeLaw.{records_sound}
-use Rattle.flsm_model.proofs.NestLaw.{records_nested}
-use Rattle.flsm_model.proofs.BoundLaw.{records_bounded}
+use Rattle.flsm_model.proofs.guards.ShapeLaw.{records_sound}
+use Rattle.flsm_model.proofs.guards.NestLaw.{records_nested}
+use Rattle.flsm_model.proofs.guards.BoundLaw.{records_bounded}
 use Rattle.flsm_model.proofs.laws.law_shape.Goals as goal
 
 pub returns-clause-sound : goal.returns-clause-sound

@@ -1,7 +1,7 @@
 use Rattle.std.proofs.Common.{◌+◌, ◌&&◌, not, drop, map, sym, ap, ◌∙◌}
 use Rattle.peb_base.specs.declared.table_row.TableRow.{TableRow}
 use Rattle.flsm_model.specs.Fits.{numbers_differ}
-use Rattle.flsm_model.proofs.Testing.{differ_from}
+use Rattle.flsm_model.proofs.lists.Testing.{differ_from}
 use Rattle.flsm_model.proofs.rows.numbers_differ.Goals as goal
 
 pub returns-then-is_live : goal.returns-then-is_live

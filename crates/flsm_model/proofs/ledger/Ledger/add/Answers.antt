@@ -2,7 +2,7 @@ use Rattle.std.proofs.Common.{◌++◌, refl, subst}
 use Rattle.std.specs.Prelude.{flat_map}
 use Rattle.flsm_model.specs.Shape.{outputs_of}
 use Rattle.flsm_model.specs.Ledgers.{Counts, cut_rows}
-use Rattle.flsm_model.proofs.Counting.{ledger_push, ledger_push_plain}
+use Rattle.flsm_model.proofs.lists.Counting.{ledger_push, ledger_push_plain}
 use Rattle.flsm_model.proofs.ledger.Ledger.add.Goals as goal
 
 pub returns-in-Flush-clause-counts : goal.returns-in-Flush-clause-counts

@@ -1,7 +1,7 @@
 use Rattle.std.proofs.Common.{◌+◌, List, [], ◌∷◌, ◌++◌, take, take_all, sym, subst, arith}
 use Rattle.peb_base.specs.declared.table_row.TableRow.{TableRow}
 use Rattle.flsm_model.specs.Ledgers.{Counts}
-use Rattle.flsm_model.proofs.Counting.{taken_more}
+use Rattle.flsm_model.proofs.lists.Counting.{taken_more}
 use Rattle.flsm_model.proofs.ledger.Ledger.count_cut_rows.Goals as goal
 
 pub loop-row-preserved : goal.loop-row-preserved

@@ -1,6 +1,6 @@
 use Rattle.std.proofs.Common.{◌++◌, take_all, sym, subst, arith}
 use Rattle.flsm_model.specs.Ledgers.{Counts}
-use Rattle.flsm_model.proofs.Counting.{taken_more}
+use Rattle.flsm_model.proofs.lists.Counting.{taken_more}
 use Rattle.flsm_model.proofs.ledger.Ledger.count_rows.Goals as goal
 
 pub loop-row-preserved : goal.loop-row-preserved

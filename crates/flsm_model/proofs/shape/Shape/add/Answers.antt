@@ -1,7 +1,7 @@
 use Rattle.std.proofs.Common.{true, false, refl, sym, ◌∙◌}
 use Rattle.peb_base.specs.Profiles.{column}
 use Rattle.flsm_model.specs.Fields.{fields_of}
-use Rattle.flsm_model.proofs.Shaped.{goes_on}
+use Rattle.flsm_model.proofs.lists.Shaped.{goes_on}
 use Rattle.flsm_model.proofs.shape.Shape.add.Goals as goal
 
 pub returns-then-not-branch-clause-record : goal.returns-then-not-branch-clause-record

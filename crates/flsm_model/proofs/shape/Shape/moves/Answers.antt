@@ -3,7 +3,7 @@ use Rattle.std.specs.Prelude.{nat_lt}
 use Rattle.std.proofs.lemmas.Bool.{lt-ltb}
 use Rattle.peb_base.specs.Profiles.{Column, column}
 use Rattle.flsm_model.specs.Fields.{fields_of}
-use Rattle.flsm_model.proofs.Testing.{move_test}
+use Rattle.flsm_model.proofs.lists.Testing.{move_test}
 use Rattle.flsm_model.proofs.shape.Shape.moves.Goals as goal
 
 pub returns : goal.returns

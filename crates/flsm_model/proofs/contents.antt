@@ -1,0 +1,20 @@
+-- What tables hold, and what it shows.
+pub mod Sorts
+pub mod Falls
+pub mod Keeps
+pub mod Covers
+pub mod Maps
+pub mod MapBase
+pub mod MapLaw
+pub mod MapList
+pub mod Shown
+pub mod Bound
+pub mod Places
+pub mod Conserved
+pub mod LastLevel
+pub mod Tables
+pub mod Base
+pub mod Structure
+pub mod Orders
+pub mod Begin
+pub mod Beside

@@ -1,0 +1,4 @@
+-- Which jobs are picked.
+pub mod Picks
+pub mod Lawful
+pub mod Needs
