@@ -7,7 +7,7 @@ use lib.ListN.{get_elem?}
 use Rattle.atomic_table.specs.Table.{State, Final, Seen}
 use Rattle.turn_lock.specs.declared.known.Known.{Known}
 use Rattle.turn_lock.specs.declared.stage.Stage.TheVariants.{Idle, Serving}
-use Rattle.turn_lock.specs.Seat.{IsServing, numbers, HasWholeHistory}
+use Rattle.turn_lock.specs.Seat.{IsServing, numbers, HasPlaces, HasWholeHistory}
 use Rattle.turn_lock.specs.Account.{Account}
 use Rattle.turn_lock.specs.Rule.{place_count, IsLive, Knows, IsAtHome, IsAway, AccountsFor, KeepsRule}
 use Rattle.turn_lock.proofs.Lists.{at_once}
@@ -50,6 +50,13 @@ module _ {V E : Type 0} (stands : V → List E → Type 0) (actor : E → Option
     all_counted = let one : place_count s.views ≡ length v.mine = place_count_one s.views id v at (λ j u other e. ⊎_elim {C = u.mine ≡ []} (λ alive. absurd (other (the_one j u e alive))) (λ dead. ((q.each j u e).gone dead).1) (live_or u.stage)) in
         let c : a.roll.base + place_count s.views ≡ length a.history = q.counted in let w : length a.history ≡ length v.seen = ap (λ (z : List E). length z) whole in let f = knows_v.from in omega arith
 
+    -- its places ascend, among those of the events since `new`
+    pub placed : HasPlaces v
+    placed = record {
+      ascend = knows_v.ascends;
+      within = λ p h. let m = knows_v.mine p h in let low = m.1 in let high = m.2 in let f = knows_v.from in (omega arith, high);
+    }
+
     -- the value is in the slot
     pub at_home : (x : V) × (s.homes ≡ some (Some x) ∷ []) × stands x v.seen
     at_home = ⊎_elim {C = (x : V) × (s.homes ≡ some (Some x) ∷ []) × stands x v.seen}
@@ -65,5 +72,5 @@ module _ {V E : Type 0} (stands : V → List E → Type 0) (actor : E → Option
       let at : get_elem? s.views id ≡ some known = final.1.1 ∙ ap some (sym is) in let k = settled stands actor s id known at (subst Begun (sym idle) tt) final.1.0 in
       let h = at_home k.0 s k.1 id known at idle first all in (
         (h.0, final.4 0 (Some h.0) (ap (λ (z : List (maybe.Option (Option V))). get_elem? z 0) h.1), h.2),
-        record { each = all_mine k.0 s k.1 id known at idle first all; once = all_counted k.0 s k.1 id known at idle first all },
+        record { each = all_mine k.0 s k.1 id known at idle first all; once = all_counted k.0 s k.1 id known at idle first all; places = placed k.0 s k.1 id known at idle first all },
       )

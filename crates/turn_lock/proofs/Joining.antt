@@ -1,6 +1,7 @@
 -- A seat is joined into another.
 use Rattle.std.proofs.Common.{◌≡◌, ◌≢◌, ℕ, ◌+◌, ◌<◌, ◌≤◌, List, length, set, sym, refl, ap, ◌∙◌, subst, ◌⊎◌, inl, inr, ⊎_elim, arith, Option, length-set}
 use Rattle.std.specs.List.{Contains}
+use Rattle.std.specs.List.Sorted.{IsStrictlyIncreasing}
 use Rattle.std.proofs.lemmas.List.Elements.{Contains-append_cases}
 use mathlib.Core.Option.{none, some}
 use mathlib.Core.Logic.{dite}
@@ -11,7 +12,7 @@ use Rattle.atomic_table.proofs.Lists.{set_here, set_else}
 use Rattle.turn_lock.specs.declared.known.Known.{Known}
 use Rattle.turn_lock.specs.declared.stage.Stage.TheVariants.{Idle, Serving}
 use Rattle.turn_lock.specs.Lists.{IsFront, longer, shorter}
-use Rattle.turn_lock.specs.Seat.{IsServing, numbers, after_join}
+use Rattle.turn_lock.specs.Seat.{IsServing, HasPlaces, numbers, after_join}
 use Rattle.turn_lock.specs.Account.{Account}
 use Rattle.turn_lock.specs.Rule.{spent, tickets_at, ticket_count, place_count, Fits, IsAtHome, IsAway, AccountsFor, KeepsRule}
 use Rattle.turn_lock.specs.Steps.{AfterLearn}
@@ -27,10 +28,15 @@ module _ {V E : Type 0} (stands : V → List E → Type 0) (actor : E → Option
   abbrev Rule : State (Option V) (Known E) → Type 0
   Rule = KeepsRule stands actor
 
+  -- places that ascend among those of the events since `new`
+  placed : (v : Known E) → IsStrictlyIncreasing v.mine → ((p : ℕ) → Contains v.mine p → (v.base ≤ p) × (p < length v.seen)) → HasPlaces v
+  placed v ascend within = record { ascend = ascend; within = within }
+
   -- an idle seat may learn that what it was told is a front of what it has seen
   pub learns : (slots id : ℕ) (me : Me (Option V) (Known E)) → me.0.stage ≡ Idle → length me.0.told ≤ length me.0.seen → Allows Rule slots id me 0 (λ n. n) (AfterLearn (step slots 0 0 0 none) me)
   learns slots id me idle short s r deep at _ = let k = settled stands actor s id me.0 at (subst Begun (sym idle) tt) r in let a : Account E = k.0 in let q : AccountsFor stands actor a s = k.1 in let f : Fits a id me.0 = q.each id me.0 at in
-      (me.0, keeps, tt, still stands actor s 0 id me.0 me.1 at r, (refl, front_of a.history me.0.seen me.0.told f.seen f.told short, (f.knows (is_live me.0.stage Idle idle tt)).ascends))
+      let kn = f.knows (is_live me.0.stage Idle idle tt) in
+      (me.0, keeps, tt, still stands actor s 0 id me.0 me.1 at r, (refl, front_of a.history me.0.seen me.0.told f.seen f.told short, placed me.0 kn.ascends (λ p h. let m = kn.mine p h in let low = m.1 in let high = m.2 in let from = kn.from in (omega arith, high))))
 
   -- of two fronts of a history both the longer and the shorter are fronts of it
   longer_front : (h xs ys : List E) → IsFront xs h → IsFront ys h → IsFront (longer xs ys) h × IsFront (shorter xs ys) h × (length xs ≤ length (longer xs ys)) × (length ys ≤ length (longer xs ys)) × (length (shorter xs ys) ≤ length (longer xs ys))

@@ -32,7 +32,8 @@ IsServing _ = ⊥
 abbrev pub numbers : {E : Type 0} → Known E → List ℕ
 numbers v = v.number ∷ v.joined
 
--- each event since `new` that carries a number of the seat stands at one of its places
+-- each event since `new` that it has seen, and that carries a number of the seat or of one joined into
+-- it, stands at one of its places
 abbrev pub HasOwnEvents : {E : Type 0} → (E → Option ℕ) → Known E → Type 0
 HasOwnEvents {E} actor v =
     (p n : ℕ) (e : E) → v.base ≤ p → slice_get v.seen p ≡ Some e
@@ -93,7 +94,8 @@ after_join v w = record v {
   joined = v.joined ++ numbers w;
 }
 
--- each event since `new` that the seat has seen is its own, and each just once
+-- each event since `new` that the seat has seen is its own, and each just once, at ascending places
 pub record HasWholeHistory {E : Type 0} (v : Known E) : Type 0 where
   pub each : (p : ℕ) → v.base ≤ p → p < length v.seen → Contains v.mine p
   pub once : length v.seen ≡ v.base + length v.mine
+  pub places : HasPlaces v

@@ -1,7 +1,6 @@
 -- What each step tells its seat: of the step, the seat before, the word found, the seat after.
 use Rattle.std.specs.Prelude.{◌≡◌, ◌≢◌, ℕ, ◌%◌, ◌^◌, List, ◌∷◌, length}
 use Rattle.std.specs.Prelude.{Option, Some, None}
-use Rattle.std.specs.List.Sorted.{IsStrictlyIncreasing}
 use Rattle.atomic_table.specs.Table.{Me, Step, rest}
 use Rattle.turn_lock.specs.declared.known.Known.{Known}
 use Rattle.turn_lock.specs.declared.stage.Stage.TheVariants.{Idle, Waiting, Serving}
@@ -27,7 +26,7 @@ module _ {V E : Type 0} where
   abbrev pub AfterDraw : Step (Option V) → Mine V E → ℕ → Mine V E → Type 0
   AfterDraw step m r w = (t : ℕ) × (w ≡ (at_stage (Waiting t) m.0, m.1)) × (r ≡ t % 2 ^ 64)
 
-  -- the seat is served, has the slot in hand, and has seen all that the value in it stands for
+  -- the seat is served, has the slot in hand, and the value in it stands for what it has then seen
   abbrev pub IsServed : (V → List E → Type 0) → (E → Option ℕ) → ℕ → Mine V E → Mine V E → Type 0
   IsServed stands actor t m w =
       (x : V) × (h : List E) × (w ≡ (having_seen (Serving t) h m.0, (0, Some x) ∷ m.1))
@@ -40,7 +39,7 @@ module _ {V E : Type 0} where
       (t : ℕ) → m.0.stage ≡ Waiting t
       → (r ≡ t % 2 ^ 64 → IsServed stands actor t m w) × (r ≢ t % 2 ^ 64 → w ≡ m)
 
-  -- what was found is the length of the history
+  -- what was found is the length of what the seat has seen, modulo 2^64
   abbrev pub AfterCheck : Step (Option V) → Mine V E → ℕ → Mine V E → Type 0
   AfterCheck step m r w = (w ≡ m) × (r ≡ length m.0.seen % 2 ^ 64)
 
@@ -54,4 +53,4 @@ module _ {V E : Type 0} where
 
   -- of two seats that were joined the one saw a front of the other, and no place was both theirs
   abbrev pub AfterLearn : Step (Option V) → Mine V E → ℕ → Mine V E → Type 0
-  AfterLearn step m r w = (w ≡ m) × IsFront m.0.told m.0.seen × IsStrictlyIncreasing m.0.mine
+  AfterLearn step m r w = (w ≡ m) × IsFront m.0.told m.0.seen × HasPlaces m.0

@@ -88,8 +88,8 @@ impl<V: Counted> TurnLock<V> {
         shared.store::<Begin<K>>(place, EVENTS, events);
     }
 
-    /// Waits for the seat's turn, and takes the value. It stands for all events so far, and the seat
-    /// has then seen these. It takes no memory.
+    /// Waits for the seat's turn, and takes the value. It stands for what the seat has then seen, which
+    /// by the lock's rule is the whole history. It takes no memory.
     pub fn take<R: Wait>(&self, rt: &R, seat: &mut Seat<V>) -> V
         // what it asks
         requires lock { seat.old.lock ≡ self.now }
@@ -129,7 +129,8 @@ impl<V: Counted> TurnLock<V> {
         unreachable!()
     }
 
-    // Sleeps while this ticket is served, if it still is.
+    // Sleeps while this ticket is served, if it still is. It is the one that was looked at, not a later
+    // one: else a seat may sleep through its own turn.
     fn sleep<R: Wait>(&self, rt: &R, serving: u64) {
         let low = serving % (1 << 32);
         self.table.shared.park(rt, SERVING, low as u32);
@@ -163,7 +164,7 @@ impl<V: Counted> TurnLock<V> {
         }
     }
 
-    /// The same. What the caller says may be computed from `about`, which isn't touched.
+    /// As `give`. What the caller says may be computed from `about`, which isn't touched.
     pub fn give_about<X>(&self, seat: &mut Seat<V>, value: V, about: &X)
         ghost said: { List V.Event }
 
@@ -251,6 +252,7 @@ impl<V: Counted> TurnLock<V> {
         ensures other_front { IsFront other.known.seen seat.new.known.seen }
         ensures apart { (p : ℕ) → Contains seat.old.known.mine p
             → Contains other.known.mine p → ⊥ }
+        ensures places { HasPlaces seat.new.known }
     {
         let Seat { place, seats: _ } = other;
         let shared = &self.table.shared;

@@ -24,4 +24,4 @@ pub returns-clause-apart : goal.returns-clause-apart
 returns-clause-apart g c =
     let one = ap (λ z. z.known) c.seat.view_is in let two = ap (λ z. z.known) c.other.view_is in
     let glued = ap (λ m. m.0) c.join_seat.ensures.2 ∙ (λ i. after_join (one i) (two i)) in
-    merged_apart c.args.seat.now.known.mine c.args.other.known.mine (subst (λ v. IsStrictlyIncreasing v.mine) glued c.load.ensures.2.2)
+    merged_apart c.args.seat.now.known.mine c.args.other.known.mine (subst (λ v. IsStrictlyIncreasing v.mine) glued c.load.ensures.2.2.ascend)
