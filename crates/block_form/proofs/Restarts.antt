@@ -38,8 +38,8 @@ restart_stands zero place at before (e ∷ es) lt is =
     let here : at + length (entries_bytes place before []) ≡ at = omega (arith, ap length (entries-none place before)) in (
       places_bytes (restarts (suc place) (at + length (entry_bytes place before e)) e.key es),
       ap (λ n. drop n (places_bytes (restarts place at before (e ∷ es)))) none ∙ restarts-one place at before e es
-      ∙ ap (λ (b : Bool). (if b then big_bytes 4 at else []) ++ places_bytes (restarts (suc place) (at + length (entry_bytes place before e)) e.key es)) restart
-      ∙ ap (λ n. big_bytes 4 n ++ places_bytes (restarts (suc place) (at + length (entry_bytes place before e)) e.key es)) (sym here),
+          ∙ ap (λ (b : Bool). (if b then big_bytes 4 at else []) ++ places_bytes (restarts (suc place) (at + length (entry_bytes place before e)) e.key es)) restart
+          ∙ ap (λ n. big_bytes 4 n ++ places_bytes (restarts (suc place) (at + length (entry_bytes place before e)) e.key es)) (sym here),
     )
 restart_stands (suc k) place at before [] lt is = absurd (omega (arith, lt))
 restart_stands (suc k) place at before (e ∷ es) lt is =

@@ -10,8 +10,8 @@ ghost use Rattle.block_form.specs.Spots.{offset_of};
 ghost use Rattle.block_form.specs.Walks.{entries_from};
 
 use crate::block_fault::BlockFault;
-use crate::parts::parts_of_block;
 use crate::ends::Ends;
+use crate::parts::parts_of_block;
 use crate::reading::ends_of;
 use crate::scan::entry_at;
 use crate::stepped::{peek, restart_at, step};

@@ -40,7 +40,7 @@ abbrev pub OneBlock : Type 0
 OneBlock = (a b : List Entry) (bytes : List ℕ) → IsBlock a bytes → IsBlock b bytes → a ≡ b
 
 module _ {F : Type 0} (g : Ghosts F) (t : TableParts F) (es : List Entry) (table : Holds g t es) (told : IsTrue g.tells)
-  (whole : joined (blocks_of table.full es) ≡ es) (are : AreBlocks (blocks_of table.full es)) where
+    (whole : joined (blocks_of table.full es) ≡ es) (are : AreBlocks (blocks_of table.full es)) where
   pub honest_block : (index : ℕ) → index < length t.items → HonestBlock g t (blocks_of table.full es) index
   honest_block index lt =
       let blocks = blocks_of table.full es in

@@ -14,6 +14,6 @@ mod table_cursor;
 #[cfg(test)]
 mod tests;
 
-pub use looking::{look_in, look_up};
 pub use laws::{law_walk_ascends, law_walk_ends, law_walk_told};
+pub use looking::{look_in, look_up};
 pub use table_cursor::TableCursor;

@@ -381,7 +381,7 @@ impl<P: Port> Cursor for TableCursor<P> {
             → WalksIn self.new (es ++ e ∷ [])) }
         ensures fewer { (e : Entry) → shown_by self.old ≡ Some e
             → ahead_of self.new
-                < ahead_of self.old }
+            < ahead_of self.old }
         ensures stays { shown_by self.old ≡ None
             → IsOk result × (shown_by self.new ≡ None) }
         // what it leaves

@@ -10,7 +10,8 @@ use crate::TableCursor;
 use block_pool::Pool;
 use disk_model::{Devices, FailPlan, Maker, MemDevices, Plans, Port};
 use peb_base::{
-    ChangeRef, Cursor, EntryRef, Key, Number, Options, Profile, ReadFault, TableRow, Value, is_before,
+    ChangeRef, Cursor, EntryRef, Key, Number, Options, Profile, ReadFault, TableRow, Value,
+    is_before,
 };
 use std::alloc::Global;
 use std::sync::Arc;

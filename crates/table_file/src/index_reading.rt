@@ -9,7 +9,7 @@ use crate::index_fault::IndexFault;
 use crate::index_item::IndexItem;
 use crate::item_fields::{ItemFields, item_at};
 use byteorder::{BigEndian, ByteOrder};
-use peb_base::{is_before, Key, KeyBuf, Number};
+use peb_base::{Key, KeyBuf, Number, is_before};
 use std::alloc::Global;
 
 /// Whether these are an item of a block at this place, which ends here at the latest and comes after this key and number.

@@ -24,7 +24,9 @@ mod table_writer;
 mod tests;
 
 pub use index_item::IndexItem;
-pub use laws::{law_blocks, law_cut, law_holds, law_length, one_opening, opens_as_written, written_opens};
+pub use laws::{
+    law_blocks, law_cut, law_holds, law_length, one_opening, opens_as_written, written_opens,
+};
 pub use put_fault::PutFault;
 pub use table::Table;
 pub use table_fault::TableFault;

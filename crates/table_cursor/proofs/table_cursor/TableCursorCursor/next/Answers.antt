@@ -32,9 +32,9 @@ returns-clause-walks g c =
     let new = c.go-moved.new.self in
     let table = arc_value cursor.table in
     let within : cursor.page.place + 1 < length cursor.page.entries → GoesWithin cursor.page cursor.index (cursor.page.place + 1) new.page new.index = λ lt.
-        let w = c.go-moved.ensures.within (cursor.page.place + 1) (c.next_step-step.ensures.within lt) in (w.1, w.2) in
+    let w = c.go-moved.ensures.within (cursor.page.place + 1) (c.next_step-step.ensures.within lt) in (w.1, w.2) in
     subst (λ t. OnOk c.go-moved.result ((es : List Entry) (e : Entry) → slice_get cursor.page.entries cursor.page.place ≡ Some e
-        → Walks g.P.File.TableHandle table cursor.index cursor.page cursor.refused es → Walks g.P.File.TableHandle (arc_value t) new.index new.page c.err-self.result (es ++ e ∷ [])))
+    → Walks g.P.File.TableHandle table cursor.index cursor.page cursor.refused es → Walks g.P.File.TableHandle (arc_value t) new.index new.page c.err-self.result (es ++ e ∷ [])))
     (sym c.go-moved.ensures.table)
     (walks_on g.P.File.TableHandle table cursor.index cursor.page cursor.shown c.go-moved.result cursor.refused c.err-self.result _ c.err-self.ensures.value cursor.sorted new.index new.page within c.go-moved.ensures.lands
     (c.next_step-step.ensures.lands new.page))
@@ -45,7 +45,7 @@ returns-clause-fewer g c = λ e there.
     let new = c.go-moved.new.self in
     let table = arc_value cursor.table in
     let within : cursor.page.place + 1 < length cursor.page.entries → GoesWithin cursor.page cursor.index (cursor.page.place + 1) new.page new.index = λ lt.
-        let w = c.go-moved.ensures.within (cursor.page.place + 1) (c.next_step-step.ensures.within lt) in (w.1, w.2) in
+    let w = c.go-moved.ensures.within (cursor.page.place + 1) (c.next_step-step.ensures.within lt) in (w.1, w.2) in
     let long : length (arc_value new.table).items ≡ length table.items = λ i. length (arc_value (c.go-moved.ensures.table i)).items in
     subst (λ n. steps_ahead n new.index new.page < steps_ahead (length table.items) cursor.index cursor.page) (sym long)
     (steps_on g.P.File.TableHandle table cursor.index cursor.page cursor.shown c.go-moved.result _ new.index new.page e within c.go-moved.ensures.lands (c.next_step-step.ensures.lands new.page) c.go-moved.ensures.nothing there)

@@ -31,7 +31,7 @@ returns-clause-fewer g c = λ e there.
     let new = c.go-moved.new.self in
     let table = arc_value cursor.table in
     let within : 0 < cursor.page.place → 0 < length cursor.page.entries → GoesWithin cursor.page cursor.index (cursor.page.place - 1) new.page new.index = λ later some.
-        let w = c.go-moved.ensures.within (cursor.page.place - 1) (c.previous_step-step.ensures.within later some) in (w.1, w.2) in
+    let w = c.go-moved.ensures.within (cursor.page.place - 1) (c.previous_step-step.ensures.within later some) in (w.1, w.2) in
     let shown : 0 < length new.page.entries → ShowsOf g.P.File.TableHandle table new.index new.page =
     subst (λ t. 0 < length new.page.entries → ShowsOf g.P.File.TableHandle (arc_value t) new.index new.page) c.go-moved.ensures.table new.shown in
     steps_off g.P.File.TableHandle table cursor.index cursor.page cursor.shown c.go-moved.result _ new.index new.page e shown within c.go-moved.ensures.lands (c.previous_step-step.ensures.lands new.page) c.go-moved.ensures.nothing there
