@@ -7,3 +7,4 @@ pub mod At
 pub mod Replays
 pub mod Founds
 pub mod Openings
+pub mod Touching

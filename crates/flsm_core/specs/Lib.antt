@@ -4,3 +4,4 @@ pub mod Pairs
 pub mod Place
 pub mod Standing
 pub mod State
+pub mod Touched

@@ -98,11 +98,13 @@ fn read_logs<J: Journal>(
 }
 
 impl<J: Journal> State<J> {
-    ghost use Rattle.std.specs.Prelude.{◌≢◌, MatchResult};
+    ghost use Rattle.std.specs.Prelude.{◌≢◌, ◌⊎◌, MatchResult};
     ghost use Rattle.flsm_core.specs.Opening.{OpensOn, HasRead};
     ghost use Rattle.flsm_core.specs.declared.open_fault.OpenFault.TheVariants as opens;
     ghost use Rattle.flsm_core.specs.Standing.{IsAt};
-    ghost use Rattle.flsm_core.specs.State.{state_session, state_journal};
+    ghost use Rattle.disk_model.specs.declared.journal_file.JournalFile.{JournalFile};
+    ghost use Rattle.flsm_core.specs.State.{state_session, state_journal, state_file};
+    ghost use Rattle.flsm_core.specs.Touched.{HasTouched, HasTouchedNextLog};
 
     /// Creates the next log over what was read.
     fn begin(
@@ -129,6 +131,10 @@ impl<J: Journal> State<J> {
             → (image : Image) → J.left_since e.1 start.moment image
             → Stands start.profile start.base image) }
         ensures time { IfErr result (λ e. J.moment journal ≤ J.moment e.1) }
+        ensures next_log { MatchResult result
+            (λ state. (state_file state ≡ Log (found.logs + 1))
+            × HasTouched J.tells (Log (found.logs + 1)) (told_by J.Journal journal) (told_by J.Journal (state_journal state)))
+            (λ e. HasTouched J.tells (Log (found.logs + 1)) (told_by J.Journal journal) (told_by J.Journal e.1)) }
         ensures never_falls { MatchResult result
             (λ state. J.faults journal ≤ J.faults (state_journal state))
             (λ e. J.faults journal ≤ J.faults e.1) }
@@ -188,6 +194,10 @@ impl<J: Journal> State<J> {
             → (image : Image) → J.left_since e.1 (J.moment journal) image
             → Stands profile base image) }
         ensures time { IfErr result (λ e. J.moment journal ≤ J.moment e.1) }
+        ensures next_log { IfOk result (λ state. HasTouchedNextLog J.tells (state_file state)
+            (told_by J.Journal journal) (told_by J.Journal (state_journal state))) }
+        ensures next_log_err { IfErr result (λ e. HasWatched (told_by J.Journal journal) (told_by J.Journal e.1)
+            ⊎ ((file : JournalFile) × HasTouchedNextLog J.tells file (told_by J.Journal journal) (told_by J.Journal e.1))) }
         ensures never_falls { MatchResult result
             (λ state. J.faults journal ≤ J.faults (state_journal state))
             (λ e. J.faults journal ≤ J.faults e.1) }

@@ -108,12 +108,22 @@ impl<J: Journal> State<J> {
 
 impl<J: Journal> Store for State<J> {
     ghost use Rattle.flsm_core.specs.Standing.{IsAt};
+    ghost use Rattle.disk_model.specs.Told.{told_by};
+    ghost use Rattle.record_log.specs.State.{log_file};
+    ghost use Rattle.flsm_core.specs.Touched.{HasTouchedLog, log_touched_self, log_touched_on};
 
     ghost stands = { λ s p. IsAt J.Journal s p };
 
     ghost session = { λ s. s.session };
 
     ghost faults = { λ s. J.faults s.journal };
+
+    ghost touched = { λ a b. HasTouchedLog J.tells (log_file a.log) (log_file b.log)
+        (told_by J.Journal a.journal) (told_by J.Journal b.journal) };
+
+    ghost touched_self = { λ s. log_touched_self J.Journal.tells (log_file s.log) _ };
+
+    ghost touched_on = { λ a b c one two. log_touched_on J.Journal.tells _ _ _ _ _ _ one two };
 
     fn put(&mut self, key: Key, value: Value) -> Result<Number, CommitFault> {
         if self.stopped {

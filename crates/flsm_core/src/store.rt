@@ -24,6 +24,9 @@ pub trait Store {
     /// How often the journal has failed.
     ghost faults: { Self → ℕ };
 
+    /// Calls led from the one store to the other, and changed no file of the journal but the store's own log.
+    ghost touched: { Self → Self → Type 0 };
+
     /// Commits a batch that puts one key, and gives its number. It makes no call on the journal.
     ///
     /// `Stopped` comes exactly where the journal has failed before, else `Limit` exactly where the
@@ -35,7 +38,8 @@ pub trait Store {
         ensures answers { (p : Place) → stands self.old p
             → Puts (session self.old) p (put_op key value ∷ []) result }
         ensures session { session self.new ≡ session self.old }
-        ensures faults { faults self.new ≡ faults self.old };
+        ensures faults { faults self.new ≡ faults self.old }
+        ensures touched { touched self.old self.new };
 
     /// Makes all committed batches stable: every crash leaves them. It gives the last number and
     /// takes no memory.
@@ -49,7 +53,8 @@ pub trait Store {
         ensures answers { (p : Place) → stands self.old p → Syncs p result }
         ensures session { session self.new ≡ session self.old }
         ensures later { faults self.old ≤ faults self.new }
-        ensures cause { IsErrOf result syncs.Journal → Rose (faults self.old) (faults self.new) };
+        ensures cause { IsErrOf result syncs.Journal → Rose (faults self.old) (faults self.new) }
+        ensures touched { touched self.old self.new };
 
     /// The last number, or 0.0 where there is no batch.
     fn last(&self) -> Number
@@ -60,4 +65,10 @@ pub trait Store {
         ensures value { (p : Place) → stands self.now p
             → option_copied result ≡ value_at (all_of p) (last_number (all_of p)) key.now }
         ensures short { IfSome result (λ value. length value.now ≤ 32768) };
+
+    /// No call changes no file.
+    ghost touched_self: { (store : Self) → touched store store };
+
+    /// Calls follow one another.
+    ghost touched_on: { (a b c : Self) → touched a b → touched b c → touched a c };
 }

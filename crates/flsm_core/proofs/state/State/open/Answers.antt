@@ -6,7 +6,13 @@ use Rattle.flsm_core.specs.Logs.{Reads, ReadsAs, Stands}
 use Rattle.flsm_core.specs.Opening.{AreKept, IsFound, HasWatched}
 use Rattle.flsm_core.specs.Place.{opened, start_at}
 use Rattle.flsm_core.specs.Standing.{IsAt}
-use Rattle.flsm_core.proofs.Openings.{Read, same_base, has_read, base_read, if_ok, if_both, if_err}
+use Rattle.disk_model.specs.declared.journal_file.JournalFile.{JournalFile}
+use Rattle.disk_model.specs.declared.journal_file.JournalFile.TheVariants.{Log}
+use Rattle.flsm_core.specs.State.{state_file}
+use Rattle.flsm_core.specs.Touched.{HasTouched, touched_on}
+use Rattle.flsm_core.proofs.Held.{holds_end}
+use Rattle.flsm_core.proofs.Touching.{touched_watched}
+use Rattle.flsm_core.proofs.Openings.{Read, same_base, has_read, base_read, if_ok, if_both, if_err, by_ok, by_err}
 use Rattle.flsm_core.proofs.state.State.open.Goals as goal
 
 -- the base is what the reading found, so the start that was asked for is that of what was found
@@ -107,3 +113,39 @@ returns-in-Ok-clause-possible g c = if_ok c.begin.result _ _ (λ state session. 
 
 pub returns-in-Ok-clause-time : goal.returns-in-Ok-clause-time
 returns-in-Ok-clause-time g c = if_err c.begin.result _ _ (λ e later. omega (arith, later, c.read_logs.ensures.watched.time.later)) c.begin.ensures.time
+
+pub returns-in-Ok-clause-next_log : goal.returns-in-Ok-clause-next_log
+returns-in-Ok-clause-next_log g c = by_ok c.begin.result _ _ _ (λ state made.
+    let d = g.J.Journal in
+    let found = c.in-Ok.ensures.found in
+    let n : ℕ = c.in-Ok.found.logs + 1 in
+    let old = told_by d c.args.journal in
+    let mid = told_by d c.read_logs.new.journal in
+    let counts = g.met.J.Journal.counts_now c.args.journal in
+    record {
+      number = n;
+      named = made.0;
+      absent = λ told. holds_end 1 n found.0 (d.seen c.args.journal) (omega (arith, found.2.count)) (found.3 told);
+      touched = subst (λ (file : JournalFile). HasTouched d.tells file old (told_by d state.journal)) (sym made.0)
+          (touched_on d.tells (Log n) old mid (told_by d state.journal) (touched_watched d.tells (Log n) old mid counts c.read_logs.ensures.watched) made.1);
+    })
+    c.begin.ensures.next_log
+
+pub returns-in-Ok-clause-next_log_err : goal.returns-in-Ok-clause-next_log_err
+returns-in-Ok-clause-next_log_err g c = by_err c.begin.result _ _ _ (λ e made.
+    let d = g.J.Journal in
+    let found = c.in-Ok.ensures.found in
+    let n : ℕ = c.in-Ok.found.logs + 1 in
+    let old = told_by d c.args.journal in
+    let mid = told_by d c.read_logs.new.journal in
+    let counts = g.met.J.Journal.counts_now c.args.journal in
+    inr (
+      Log n,
+      record {
+        number = n;
+        named = refl;
+        absent = λ told. holds_end 1 n found.0 (d.seen c.args.journal) (omega (arith, found.2.count)) (found.3 told);
+        touched = touched_on d.tells (Log n) old mid (told_by d e.1) (touched_watched d.tells (Log n) old mid counts c.read_logs.ensures.watched) made;
+      },
+    ))
+    c.begin.ensures.next_log

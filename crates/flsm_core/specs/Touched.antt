@@ -1,0 +1,58 @@
+-- Which file of a journal calls have changed.
+use Rattle.std.specs.Prelude.{◌≡◌, ◌≢◌, ℕ, ◌≤◌, Bool, IsTrue}
+use Rattle.std.proofs.Common.{refl, ◌∙◌, subst, arith}
+use Rattle.disk_model.specs.declared.journal_file.JournalFile.{JournalFile}
+use Rattle.disk_model.specs.Images.{Image}
+use Rattle.disk_model.specs.Told.{JournalTold}
+use Rattle.disk_model.specs.declared.journal_file.JournalFile.TheVariants.{Log}
+use Rattle.record_log.specs.Log.{IsUnfinished}
+
+-- the images are the same but for one file
+abbrev pub AreSameBut : JournalFile → Image → Image → Type 0
+AreSameBut file a b = (other : JournalFile) → other ≢ file → b other ≡ a other
+
+-- Calls changed one file at most: as reads give the others they are the same, and an image that was left since a time is,
+-- but for this file, one that was left since that time before the calls.
+pub record HasTouched (tells : Bool) (file : JournalFile) (old new : JournalTold) : Type 0 where
+  pub later : old.moment ≤ new.moment
+  pub reads : AreSameBut file old.seen new.seen
+  pub images : IsTrue tells → (t : ℕ) (image : Image) → t ≤ old.moment → new.left_since t image
+      → (before : Image) × old.left_since t before × AreSameBut file before image
+
+pub touched_self : (tells : Bool) (file : JournalFile) (told : JournalTold) → HasTouched tells file told told
+touched_self tells file told = record {
+  later = omega arith;
+  reads = λ other differ. refl;
+  images = λ sure t image le left. (image, left, λ other differ. refl);
+}
+
+pub touched_on : (tells : Bool) (file : JournalFile) (a b c : JournalTold) → HasTouched tells file a b → HasTouched tells file b c → HasTouched tells file a c
+touched_on tells file a b c one two = record {
+  later = omega (arith, one.later, two.later);
+  reads = λ other differ. two.reads other differ ∙ one.reads other differ;
+  images = λ told t image le left.
+      let mid = two.images told t image (omega (arith, le, one.later)) left in
+      let first = one.images told t mid.0 le mid.1 in
+      (first.0, first.1, λ other differ. mid.2 other differ ∙ first.2 other differ);
+}
+
+-- calls changed no file but this one, the first log that wasn't there
+pub record HasTouchedNextLog (tells : Bool) (file : JournalFile) (old new : JournalTold) : Type 0 where
+  pub number : ℕ
+  pub named : file ≡ Log number
+  pub absent : IsTrue tells → IsUnfinished (old.seen (Log number))
+  pub touched : HasTouched tells file old new
+
+-- calls led from the one place of a log to the other, and changed no file but the log's
+pub record HasTouchedLog (tells : Bool) (old_file new_file : JournalFile) (old new : JournalTold) : Type 0 where
+  pub log : new_file ≡ old_file
+  pub touched : HasTouched tells old_file old new
+
+pub log_touched_self : (tells : Bool) (file : JournalFile) (told : JournalTold) → HasTouchedLog tells file file told told
+log_touched_self tells file told = record { log = refl; touched = touched_self tells file told }
+
+pub log_touched_on : (tells : Bool) (f g h : JournalFile) (a b c : JournalTold) → HasTouchedLog tells f g a b → HasTouchedLog tells g h b c → HasTouchedLog tells f h a c
+log_touched_on tells f g h a b c one two = record {
+  log = two.log ∙ one.log;
+  touched = touched_on tells f a b c one.touched (subst (λ (file : JournalFile). HasTouched tells file b c) one.log two.touched);
+}
