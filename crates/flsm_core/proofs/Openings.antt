@@ -24,7 +24,7 @@ use Rattle.flsm_core.specs.declared.found.Found.{Found}
 use Rattle.disk_model.specs.declared.journal.Journal.{Ghosts}
 use Rattle.flsm_core.specs.Logs.{Held, flat, AreOf, BeginsLogs, HoldsLogs, Reads, ReadsAs, Stands}
 use Rattle.flsm_core.specs.Opening.{IsFound, CantGoOn, AddCause, OpenCause, HasReadLog, HasWatched, AreKept, OpensOn, Quiet, HasRead, fault_of}
-use Rattle.flsm_core.specs.Place.{Start, start_at}
+use Rattle.flsm_core.specs.Place.{start_at}
 use Rattle.flsm_core.proofs.Founds.{OneLog, Undamaged, Finished, begins_more, unreadable_log, unreadable_records, bodies_read, one_reading, SameReading}
 use Rattle.flsm_core.proofs.Replays.{OneBatch}
 

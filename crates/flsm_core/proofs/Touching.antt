@@ -1,5 +1,5 @@
 -- Which file calls have changed, by what they promise of images.
-use Rattle.std.proofs.Common.{◌≡◌, ℕ, ◌≤◌, Bool, IsTrue, List, Option, refl, ap, inl, inr, subst, sym}
+use Rattle.std.proofs.Common.{ℕ, ◌≤◌, Bool, IsTrue, List, Option, refl, ap, inl, inr}
 use Rattle.disk_model.specs.declared.journal_file.JournalFile.{JournalFile}
 use Rattle.disk_model.specs.Images.{Image, Elapses, Follows, In}
 use Rattle.disk_model.specs.Told.{JournalTold}

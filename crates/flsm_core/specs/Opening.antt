@@ -1,6 +1,5 @@
 -- What an opening reads, and why it is refused.
 use Rattle.std.specs.Prelude.{◌≡◌, ◌≢◌, ℕ, suc, ◌<◌, ◌≤◌, None, Bool, true, false, IsTrue, List, [], ◌∷◌, ◌++◌, length}
-use Rattle.std.specs.List.{AllByRecursion}
 use Rattle.peb_base.specs.declared.file_name.FileName.TheVariants as names
 use Rattle.peb_base.specs.declared.limit_kind.LimitKind.TheVariants as kinds
 use Rattle.peb_base.specs.declared.profile.Profile.{Profile}
@@ -12,7 +11,6 @@ use Rattle.disk_model.specs.Told.{JournalTold}
 use Rattle.record_log.specs.declared.header.Header.{Header}
 use Rattle.record_log.specs.declared.log_fault.LogFault.{LogFault}
 use Rattle.record_log.specs.declared.log_fault.LogFault.TheVariants as logs
-use Rattle.record_log.specs.Log.{IsLog}
 use Rattle.flsm_core.specs.declared.open_fault.OpenFault.{OpenFault}
 use Rattle.flsm_core.specs.declared.open_fault.OpenFault.TheVariants as opens
 use Rattle.flsm_core.specs.declared.replay_fault.ReplayFault.{ReplayFault}

@@ -1,5 +1,5 @@
 -- The blocks of a table that holds entries are what a cursor reads, and none is damaged.
-use Rattle.std.proofs.Common.{◌≡◌, ℕ, ◌+◌, ◌<◌, ◌∙◌, Bool, IsTrue, List, [], ◌++◌, length, take, drop, Some, Result, Ok, Err, OnOk, OnErr, refl, sym, ap, subst, arith}
+use Rattle.std.proofs.Common.{◌≡◌, ℕ, ◌+◌, ◌<◌, ◌∙◌, IsTrue, List, [], ◌++◌, length, take, drop, Some, Result, Ok, Err, OnOk, OnErr, refl, sym, ap, subst, arith}
 use Rattle.std.specs.Prelude.{slice_get}
 use Rattle.peb_base.specs.Cursors.{LeadsTo, IfDamage}
 use Rattle.disk_model.specs.declared.table_handle.TableHandle.{Ghosts}

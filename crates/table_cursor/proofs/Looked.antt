@@ -1,7 +1,6 @@
 -- What a look into one block of a table finds.
-use Rattle.std.proofs.Common.{◌≡◌, ℕ, ◌<◌, ◌≤◌, ◌∙◌, IsTrue, List, length, take, drop, Option, Some, None, Result, Ok, Err, refl, sym, ap, subst, arith}
+use Rattle.std.proofs.Common.{◌≡◌, ℕ, ◌<◌, ◌∙◌, IsTrue, List, length, take, drop, Option, Some, None, Err, sym, ap, subst}
 use Rattle.std.specs.Prelude.{slice_get, option_map, IfSome}
-use Rattle.block_form.specs.Form.{IsBlock}
 use Rattle.disk_model.specs.declared.table_handle.TableHandle.{Ghosts}
 use Rattle.peb_base.specs.Cursors.{IfDamage}
 use Rattle.peb_base.specs.Entries.{AreSorted}

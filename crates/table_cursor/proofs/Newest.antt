@@ -1,5 +1,5 @@
 -- The newest entry of a key at or below a number is the first one that doesn't come before it, where that has the key.
-use Rattle.std.proofs.Common.{◌≡◌, ℕ, zero, suc, ◌+◌, ◌<◌, ◌≤◌, ◌∙◌, ◌⊎◌, inl, inr, Bool, true, false, ◌&&◌, ◌||◌, not, List, [], ◌∷◌, length, Option, Some, None, IsTrue, refl, sym, ap, subst, arith}
+use Rattle.std.proofs.Common.{◌≡◌, ℕ, suc, ◌<◌, ◌≤◌, ◌∙◌, inl, inr, Bool, true, false, ◌&&◌, ◌||◌, not, List, [], ◌∷◌, length, Option, Some, None, refl, sym, ap, subst, arith}
 use Rattle.std.specs.Prelude.{slice_get, nat_lt, nat_le, if◌then◌else◌}
 use Rattle.std.specs.List.{find}
 use Rattle.std.specs.declared.cmp.Ordering.{Ordering}
@@ -10,17 +10,13 @@ use Rattle.std.proofs.lemmas.Map.Text.{is_eq-slice_cmp}
 use Rattle.std.proofs.lemmas.Option.{slice_get_past}
 use Rattle.std.proofs.lemmas.Bool.{or_cases, and_parts, leb-true, not-true, true≢false, false_from_ne_true}
 use Rattle.std.proofs.lemmas.Bool.Decides.{nat_tests}
-use Rattle.block_form.specs.Form.{IsBlock}
-use Rattle.disk_model.specs.declared.table_handle.TableHandle.{Ghosts}
 use Rattle.peb_base.specs.Entries.{comes_before, AscendFrom, AreSorted, first_from}
 use Rattle.peb_base.specs.KeyLaws.{lt_le, lt_asym, same_key, key_self, other_key, le_refl, lt_le_weak}
 use Rattle.peb_base.specs.Keys.{Bytes, key_lt, key_le, key_eq}
 use Rattle.peb_base.specs.declared.entry.Entry.{Entry}
 use Rattle.table_file.specs.Blocks.{AreBlocks}
-use Rattle.table_file.specs.Form.{blocks_of, items_from}
+use Rattle.table_file.specs.Form.{items_from}
 use Rattle.table_file.specs.Items.{index_for}
-use Rattle.table_file.specs.Tables.{TableParts, Holds}
-use Rattle.table_cursor.specs.Agreeing.{ShowsOf}
 use Rattle.table_cursor.specs.Looking.{newest_of}
 use Rattle.table_cursor.specs.Places.{among}
 use Rattle.table_cursor.specs.Standing.{joined}

@@ -2,21 +2,18 @@
 use Rattle.std.proofs.Common.{◌≡◌, ℕ, zero, suc, ◌+◌, ◌<◌, ◌≤◌, ◌∙◌, IsTrue, List, [], ◌∷◌, ◌++◌, length, take, Option, Some, None, refl, sym, ap, subst, arith, append_assoc, length-append}
 use Rattle.std.specs.Prelude.{slice_get}
 use Rattle.std.proofs.lemmas.List.{take_all, append-nil}
-use Rattle.block_form.specs.Form.{IsBlock}
 use Rattle.disk_model.specs.declared.table_handle.TableHandle.{Ghosts}
-use Rattle.peb_base.specs.Entries.{AreSorted}
 use Rattle.peb_base.specs.Tables.{least_number, greatest_number}
 use Rattle.peb_base.specs.declared.entry.Entry.{Entry}
 use Rattle.table_file.specs.Blocks.{AreBlocks}
 use Rattle.table_file.specs.Form.{blocks_of}
 use Rattle.table_file.specs.Tables.{TableParts, Holds}
-use Rattle.table_cursor.specs.Agreeing.{ShowsOf}
 use Rattle.table_cursor.specs.IndexLaws.{get_inside}
 use Rattle.table_cursor.specs.Page.{Reading}
-use Rattle.table_cursor.specs.Places.{block_is, among}
-use Rattle.table_cursor.specs.Standing.{joined, entries_before, OnPage, StandsAt}
+use Rattle.table_cursor.specs.Places.{block_is}
+use Rattle.table_cursor.specs.Standing.{joined, entries_before, OnPage}
 use Rattle.table_cursor.specs.StandingLaws.{shown, unshown}
-use Rattle.table_cursor.specs.Walking.{CanBeRead, ReadInOrder, by_entries, blocks_passed, WalkedOver, SpansRow, in_front}
+use Rattle.table_cursor.specs.Walking.{CanBeRead, ReadInOrder, WalkedOver, SpansRow, in_front}
 use Rattle.table_cursor.specs.WalkLaws.{ordered, all_ends}
 use Rattle.table_cursor.proofs.Blocks.{length-items}
 use Rattle.table_cursor.proofs.Honest.{OneBlock, honest_block, same_block}

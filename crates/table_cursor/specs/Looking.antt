@@ -1,5 +1,5 @@
 -- The newest entry of a key at or below a number.
-use Rattle.std.specs.Prelude.{◌≡◌, ℕ, ◌≤◌, Bool, ◌&&◌, List, Option, Some, None, Result, Ok, Err, nat_le, option_map}
+use Rattle.std.specs.Prelude.{◌≡◌, ℕ, ◌≤◌, ◌&&◌, List, Option, Result, Ok, Err, nat_le, option_map}
 use Rattle.std.specs.List.{find}
 use Rattle.disk_model.specs.declared.table_handle.TableHandle.{Ghosts}
 use Rattle.peb_base.specs.EntryRefs.{entry_of}

@@ -1,10 +1,6 @@
 -- Where a step of a cursor leads.
-use Rattle.std.specs.Prelude.{◌≡◌, ℕ, suc, ◌+◌, ◌-◌, ◌<◌, ◌≤◌, List, length, nat_lt, if◌then◌else◌, Option, Some, None, Result, Err}
-use Rattle.peb_base.specs.Faults.{Rose}
+use Rattle.std.specs.Prelude.{ℕ, suc, ◌+◌, ◌-◌, ◌<◌, List, length, nat_lt, if◌then◌else◌, Option, Some, None}
 use Rattle.peb_base.specs.declared.entry.Entry.{Entry}
-use Rattle.peb_base.specs.declared.read_fault.ReadFault.{ReadFault}
-use Rattle.peb_base.specs.declared.read_fault.ReadFault.TheVariants.{Fault}
-use Rattle.disk_model.specs.Tables.{TableFiles}
 use Rattle.table_cursor.specs.Page.{Reading}
 use Rattle.table_cursor.specs.Standing.{entries_before}
 use Rattle.table_cursor.specs.declared.step.Step.{Step}

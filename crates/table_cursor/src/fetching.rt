@@ -3,7 +3,7 @@
 ghost use Rattle.std.specs.Prelude.{◌≡◌, ◌≤◌, ◌<◌, ◌+◌, IsTrue, IsOk, IfOk, Err, length, take, drop};
 ghost use Rattle.disk_model.specs.Images.{HasCause};
 ghost use Rattle.peb_base.specs.Cursors.{IfDamage};
-ghost use Rattle.table_file.specs.Ports.{ReadsAtMost};
+ghost use Rattle.disk_model.specs.Ports.{ReadsAtMost};
 ghost use Rattle.table_cursor.specs.Agreeing.{IsDamageOf};
 ghost use Rattle.table_cursor.specs.Fetching.{Fetched};
 ghost use Rattle.peb_base.specs.declared.read_fault.ReadFault.TheVariants as faults;
@@ -26,6 +26,7 @@ fn read_front<P: Port>(
     ensures count { IfOk result (λ n. n ≤ len) }
     ensures read { IfOk result (λ n. IsTrue P.File.tells → take n room.new ≡ take len (drop at (P.File.bytes file.now))) }
     ensures files { P.table_files port.new ≡ P.table_files port.old }
+    ensures no_fewer { P.reads port.old ≤ P.reads port.new }
     ensures once { P.reads port.new ≤ P.reads port.old + 1 }
     ensures steady { P.steady port.old → IsOk result × P.steady port.new }
     ensures cause { HasCause (P.faults port.old) (P.faults port.new) result }
@@ -45,6 +46,7 @@ fn read_into<P: Port>(
     ensures count { IfOk result (λ n. n ≤ len) }
     ensures read { IfOk result (λ n. IsTrue P.File.tells → take n loan.new ≡ take len (drop at (P.File.bytes file.now))) }
     ensures files { P.table_files port.new ≡ P.table_files port.old }
+    ensures no_fewer { P.reads port.old ≤ P.reads port.new }
     ensures once { P.reads port.new ≤ P.reads port.old + 1 }
     ensures steady { P.steady port.old → IsOk result × P.steady port.new }
     ensures cause { HasCause (P.faults port.old) (P.faults port.new) result }

@@ -6,7 +6,7 @@ ghost use Rattle.peb_base.specs.EntryRefs.{entry_of};
 ghost use Rattle.peb_base.specs.declared.entry.Entry.{Entry};
 ghost use Rattle.peb_base.specs.declared.read_fault.ReadFault.TheVariants as faults;
 ghost use Rattle.block_form.specs.Form.{IsBlock};
-ghost use Rattle.table_file.specs.Ports.{ReadsAtMost};
+ghost use Rattle.disk_model.specs.Ports.{ReadsAtMost};
 ghost use Rattle.table_file.specs.Tables.{Holds};
 ghost use Rattle.table_cursor.specs.Agreeing.{IsDamageOf};
 ghost use Rattle.table_cursor.specs.Looking.{newest_of, Finds, IsFound};

@@ -7,7 +7,7 @@ ghost use Rattle.peb_base.specs.declared.entry.Entry.{Entry};
 ghost use Rattle.block_form.specs.Form.{IsBlock};
 ghost use Rattle.block_form.specs.Walks.{entries_in};
 ghost use Rattle.peb_base.specs.Cursors.{IfDamage};
-ghost use Rattle.table_file.specs.Ports.{ReadsAtMost};
+ghost use Rattle.disk_model.specs.Ports.{ReadsAtMost};
 ghost use Rattle.peb_base.specs.declared.read_fault.ReadFault.TheVariants as faults;
 ghost use Rattle.table_cursor.specs.Agreeing.{IsDamageOf};
 

@@ -8,7 +8,7 @@ ghost use Rattle.peb_base.specs.declared.entry.Entry.{Entry};
 ghost use Rattle.peb_base.specs.declared.read_fault.ReadFault.TheVariants as faults;
 ghost use Rattle.table_file.specs.Form.{blocks_of};
 ghost use Rattle.table_file.specs.Items.{index_for};
-ghost use Rattle.table_file.specs.Ports.{ReadsAtMost};
+ghost use Rattle.disk_model.specs.Ports.{ReadsAtMost};
 ghost use Rattle.table_file.specs.Tables.{Holds};
 ghost use Rattle.table_cursor.specs.Agreeing.{ShowsOf, IsDamageOf};
 ghost use Rattle.table_cursor.specs.Page.{Reading};
@@ -255,7 +255,7 @@ impl<P: Port> Cursor for TableCursor<P> {
     ghost use Rattle.peb_base.specs.EntryRefs.{entry_of};
     ghost use Rattle.peb_base.specs.declared.entry.Entry.{Entry};
     ghost use Rattle.peb_base.specs.declared.read_fault.ReadFault.TheVariants as faults;
-    ghost use Rattle.table_file.specs.Ports.{ReadsAtMost};
+    ghost use Rattle.disk_model.specs.Ports.{ReadsAtMost};
     ghost use Rattle.table_cursor.specs.Spots.{first_spot, last_spot, next_spot, previous_spot, found_spot};
     ghost use Rattle.table_cursor.specs.StandingLaws.{stands_among};
     ghost use Rattle.table_cursor.specs.Views.{table_of, port_of, page_of, index_of, refused_of, blocks_in, shown_by, spot_of, ahead_of, back_of, size_of, StandsIn, WalksIn, DamageIn, IsOfTable, Keeps, keeps_self, keeps_on};

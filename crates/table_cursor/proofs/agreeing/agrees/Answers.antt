@@ -1,11 +1,9 @@
-use Rattle.std.proofs.Common.{◌≡◌, ◌≤◌, ◌∙◌, Some, List, ℕ, length, false, refl, sym, ap, subst}
-use Rattle.std.specs.Prelude.{slice_get, IsTrue}
-use Rattle.peb_base.specs.Tables.{last_key, least_number, greatest_number}
-use Rattle.peb_base.specs.declared.entry.Entry.{Entry}
+use Rattle.std.proofs.Common.{◌≡◌, ◌≤◌, ◌∙◌, Some, sym, ap, subst}
+use Rattle.std.specs.Prelude.{IsTrue}
+use Rattle.peb_base.specs.Tables.{least_number, greatest_number}
 use Rattle.peb_base.specs.declared.table_row.TableRow.{TableRow}
 use Rattle.block_form.specs.Ends.{TellsEnds}
-use Rattle.table_file.specs.Form.{last_number, item_of}
-use Rattle.table_file.specs.declared.index_item.IndexItem.{IndexItem}
+use Rattle.table_file.specs.Form.{item_of}
 use Rattle.table_cursor.specs.IndexLaws.{item_is}
 use Rattle.table_cursor.proofs.agreeing.agrees.Goals as goal
 

@@ -1,4 +1,4 @@
-use Rattle.std.proofs.Common.{◌≡◌, rules}
+use Rattle.std.proofs.Common.{rules}
 use Rattle.table_cursor.proofs.Ends.{ends_tell}
 use Rattle.table_cursor.proofs.agreeing.ends_with.Goals as goal
 

@@ -1,9 +1,8 @@
-use Rattle.std.proofs.Common.{◌≡◌, ◌<◌, ◌≤◌, ◌∙◌, List, Some, length, sym, ap, subst, arith, rules}
+use Rattle.std.proofs.Common.{◌≡◌, ◌∙◌, List, Some, length, sym, ap, subst, arith}
 use Rattle.std.specs.Prelude.{slice_get}
 use Rattle.peb_base.specs.Entries.{first_from}
 use Rattle.peb_base.specs.EntryRefs.{entry_of}
 use Rattle.peb_base.specs.declared.entry.Entry.{Entry}
-use Rattle.table_cursor.specs.Looking.{newest_of}
 use Rattle.table_cursor.proofs.Newest.{found_there, other_there, none_there, keys_differ, keys_same}
 use Rattle.table_cursor.proofs.looking.look_in.Goals as goal
 

@@ -1,19 +1,13 @@
-use Rattle.std.proofs.Common.{◌≡◌, ◌<◌, ◌≤◌, ◌∙◌, List, [], Some, length, take, sym, ap, subst, arith, rules}
-use Rattle.std.specs.Prelude.{slice_get, IfSome, option_map}
-use Rattle.peb_base.specs.Cursors.{IfDamage}
+use Rattle.std.proofs.Common.{◌≤◌, ◌∙◌, [], length, take, sym, ap, subst, arith}
 use Rattle.peb_base.specs.Entries.{AreSorted, first_from}
-use Rattle.peb_base.specs.EntryRefs.{entry_of}
-use Rattle.peb_base.specs.declared.entry.Entry.{Entry}
 use Rattle.block_form.specs.Form.{IsBlock}
 use Rattle.table_file.specs.Form.{blocks_of, items_from}
 use Rattle.table_file.specs.Items.{index_for}
-use Rattle.table_cursor.specs.Looking.{newest_of, Finds, IsFound}
-use Rattle.table_cursor.specs.Standing.{joined}
+use Rattle.table_cursor.specs.Looking.{newest_of}
 use Rattle.table_cursor.proofs.Blocks.{length-items}
-use Rattle.table_cursor.proofs.Finding.{find_inside, found_in_none}
-use Rattle.table_cursor.proofs.Honest.{honest_block, same_block}
+use Rattle.table_cursor.proofs.Finding.{found_in_none}
 use Rattle.table_cursor.proofs.Looked.{no_damage, looked, is_found}
-use Rattle.table_cursor.proofs.Newest.{none_there, in_block}
+use Rattle.table_cursor.proofs.Newest.{none_there}
 use Rattle.table_cursor.proofs.Pages.{known_block}
 use Rattle.table_cursor.proofs.looking.look_up.Goals as goal
 

@@ -1,4 +1,4 @@
-use Rattle.std.proofs.Common.{◌≡◌, ◌+◌, suc, true, arith, length, refl, sym, ap, ◌∙◌, Err}
+use Rattle.std.proofs.Common.{◌≡◌, ◌+◌, suc, arith, length, refl, sym, ap, ◌∙◌}
 use Rattle.record_log.specs.declared.header.Header.{Header}
 use Rattle.flsm_core.proofs.At.{at_opened, begun_leaves}
 use Rattle.flsm_core.proofs.state.State.begin.Goals as goal

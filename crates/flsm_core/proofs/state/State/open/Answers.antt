@@ -1,14 +1,11 @@
-use Rattle.std.proofs.Common.{◌≡◌, ◌+◌, ◌*◌, ◌^◌, ◌<◌, ℕ, true, false, IsTrue, arith, refl, sym, ap, ◌∙◌, subst, inl, inr}
+use Rattle.std.proofs.Common.{◌≡◌, ◌+◌, ◌*◌, ◌^◌, ◌<◌, ℕ, true, false, IsTrue, arith, refl, sym, ap, ◌∙◌, subst, inr}
 use Rattle.peb_base.specs.Batches.{Batches, last_number}
-use Rattle.disk_model.specs.Images.{Image}
 use Rattle.disk_model.specs.Told.{told_by}
-use Rattle.flsm_core.specs.Logs.{Reads, ReadsAs, Stands}
+use Rattle.flsm_core.specs.Logs.{Reads}
 use Rattle.flsm_core.specs.Opening.{AreKept, IsFound, HasWatched}
-use Rattle.flsm_core.specs.Place.{opened, start_at}
-use Rattle.flsm_core.specs.Standing.{IsAt}
+use Rattle.flsm_core.specs.Place.{start_at}
 use Rattle.disk_model.specs.declared.journal_file.JournalFile.{JournalFile}
 use Rattle.disk_model.specs.declared.journal_file.JournalFile.TheVariants.{Log}
-use Rattle.flsm_core.specs.State.{state_file}
 use Rattle.flsm_core.specs.Touched.{HasTouched, touched_on}
 use Rattle.flsm_core.proofs.Held.{holds_end}
 use Rattle.flsm_core.proofs.Touching.{touched_watched}

@@ -50,9 +50,9 @@ returns-in-Ok-clause-touched g c =
           (λ told. let fine : c.requires.0.stopped ≡ false = sym is.stopped ∙ c.if-self.false in
           let rests = is.rests told fine in
           leaves_but (log_file c.args.self.now.log)
-            (λ (old : Option (List ℕ)) (new : Option (List ℕ)). IsBeforeOrAfter (log_file c.args.self.now.log) rests.current.header rests.current.groups (map record_of c.requires.0.waiting) new)
-            (d.may_leave c.args.self.now.journal) (d.left_since c.close_group.new.journal (d.moment c.args.self.now.journal))
-            (c.close_group.ensures.any_moment rests.current.header rests.current.groups (map record_of c.requires.0.waiting) rests.ready (is.waits fine).tail));
+          (λ (old : Option (List ℕ)) (new : Option (List ℕ)). IsBeforeOrAfter (log_file c.args.self.now.log) rests.current.header rests.current.groups (map record_of c.requires.0.waiting) new)
+          (d.may_leave c.args.self.now.journal) (d.left_since c.close_group.new.journal (d.moment c.args.self.now.journal))
+          (c.close_group.ensures.any_moment rests.current.header rests.current.groups (map record_of c.requires.0.waiting) rests.ready (is.waits fine).tail));
     }
 
 pub returns-in-Err-clause-touched : goal.returns-in-Err-clause-touched
@@ -66,7 +66,7 @@ returns-in-Err-clause-touched g c =
           (λ told. let fine : c.requires.0.stopped ≡ false = sym is.stopped ∙ c.if-self.false in
           let rests = is.rests told fine in
           leaves_but (log_file c.args.self.now.log)
-            (λ (old : Option (List ℕ)) (new : Option (List ℕ)). IsBeforeOrAfter (log_file c.args.self.now.log) rests.current.header rests.current.groups (map record_of c.requires.0.waiting) new)
-            (d.may_leave c.args.self.now.journal) (d.left_since c.close_group.new.journal (d.moment c.args.self.now.journal))
-            (c.close_group.ensures.any_moment rests.current.header rests.current.groups (map record_of c.requires.0.waiting) rests.ready (is.waits fine).tail));
+          (λ (old : Option (List ℕ)) (new : Option (List ℕ)). IsBeforeOrAfter (log_file c.args.self.now.log) rests.current.header rests.current.groups (map record_of c.requires.0.waiting) new)
+          (d.may_leave c.args.self.now.journal) (d.left_since c.close_group.new.journal (d.moment c.args.self.now.journal))
+          (c.close_group.ensures.any_moment rests.current.header rests.current.groups (map record_of c.requires.0.waiting) rests.ready (is.waits fine).tail));
     }

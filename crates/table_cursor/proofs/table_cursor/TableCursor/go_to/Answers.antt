@@ -1,4 +1,4 @@
-use Rattle.std.proofs.Common.{◌≡◌, ◌<◌, ◌∙◌, length, sym, ap, subst, arith}
+use Rattle.std.proofs.Common.{◌≡◌, ◌<◌, ◌∙◌, length, sym, ap, subst}
 use Rattle.peb_base.specs.Cursors.{place_from}
 use Rattle.peb_base.specs.Entries.{first_from}
 use Rattle.table_file.specs.Form.{blocks_of, items_from}

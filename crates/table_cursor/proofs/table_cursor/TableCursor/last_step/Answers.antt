@@ -1,4 +1,4 @@
-use Rattle.std.proofs.Common.{◌≡◌, ◌-◌, ◌<◌, ◌∙◌, suc, length, sym, ap, arith}
+use Rattle.std.proofs.Common.{◌≡◌, ◌-◌, ◌<◌, ◌∙◌, suc, length, ap, arith}
 use Rattle.table_file.specs.Form.{blocks_of}
 use Rattle.table_cursor.specs.Standing.{entries_before}
 use Rattle.table_cursor.specs.Steps.{where_block}

@@ -1,10 +1,9 @@
-use Rattle.std.proofs.Common.{◌-◌, ◌<◌, length, sym, ap, subst}
+use Rattle.std.proofs.Common.{◌-◌, ◌<◌, length, ap, subst}
 use Rattle.std.specs.Arc.{arc_value}
 use Rattle.peb_base.specs.Cursors.{LeadsTo}
 use Rattle.table_file.specs.Form.{blocks_of}
 use Rattle.table_cursor.specs.Agreeing.{ShowsOf}
 use Rattle.table_cursor.specs.Standing.{OnPage}
-use Rattle.table_cursor.specs.Walking.{steps_back}
 use Rattle.table_cursor.proofs.Standings.{stands_on}
 use Rattle.table_cursor.proofs.Walked.{GoesWithin, shows_nothing, nothing_there, steps_off}
 use Rattle.table_cursor.proofs.table_cursor.TableCursorCursor.prev.Goals as goal
