@@ -1,9 +1,9 @@
 -- Which file of a journal calls have changed.
 use Rattle.std.specs.Prelude.{◌≡◌, ◌≢◌, ℕ, ◌≤◌, Bool, IsTrue}
-use Rattle.std.proofs.Common.{refl, ◌∙◌, subst, arith}
+use Rattle.std.proofs.Common.{refl, ap, ◌∙◌, subst, arith}
 use Rattle.disk_model.specs.declared.journal_file.JournalFile.{JournalFile}
 use Rattle.disk_model.specs.Images.{Image}
-use Rattle.disk_model.specs.Told.{JournalTold}
+use Rattle.disk_model.specs.Told.{JournalTold, TellsTheSame}
 use Rattle.disk_model.specs.declared.journal_file.JournalFile.TheVariants.{Log}
 use Rattle.record_log.specs.Log.{IsUnfinished}
 
@@ -42,6 +42,23 @@ pub record HasTouchedNextLog (tells : Bool) (file : JournalFile) (old new : Jour
   pub named : file ≡ Log number
   pub absent : IsTrue tells → IsUnfinished (old.seen (Log number))
   pub touched : HasTouched tells file old new
+
+-- what tells the same has changed no file
+pub touched_same : (tells : Bool) (file : JournalFile) (a b : JournalTold) → TellsTheSame a b → HasTouched tells file a b
+touched_same tells file a b same = record {
+  later = omega (arith, same.time);
+  reads = λ other differ. ap (λ (i : Image). i other) same.bytes;
+  images = λ told t image le left. (image, (same.past t image).0 left, λ other differ. refl);
+}
+
+-- a log that was begun stays the one that was changed
+pub next_log_on : (tells : Bool) (file : JournalFile) (a b c d : JournalTold) → TellsTheSame a b → HasTouchedNextLog tells file b c → HasTouched tells file c d → HasTouchedNextLog tells file a d
+next_log_on tells file a b c d first next last = record {
+  number = next.number;
+  named = next.named;
+  absent = λ told. subst (λ (i : Image). IsUnfinished (i (Log next.number))) first.bytes (next.absent told);
+  touched = touched_on tells file a b d (touched_same tells file a b first) (touched_on tells file b c d next.touched last);
+}
 
 -- calls led from the one place of a log to the other, and changed no file but the log's
 pub record HasTouchedLog (tells : Bool) (old_file new_file : JournalFile) (old new : JournalTold) : Type 0 where

@@ -1,25 +1,24 @@
 -- What an opening hands on of what the devices told.
-use Rattle.std.proofs.Common.{◌≡◌, ◌≢◌, ℕ, suc, ◌*◌, ◌^◌, ◌<◌, ◌≤◌, Bool, true, false, List, Option, ◌++◌, inl, inr, refl, sym, ap, ◌∙◌, subst, arith}
-use Rattle.peb_base.specs.Batches.{Batches, last_number}
+use Rattle.std.proofs.Common.{◌≡◌, ◌≢◌, ℕ, suc, ◌≤◌, Bool, true, false, List, inl, inr, refl, sym, ap, ◌∙◌, subst, arith}
+use Rattle.peb_base.specs.Batches.{Batches}
 use Rattle.peb_base.specs.declared.profile.Profile.{Profile}
 use Rattle.peb_base.specs.Faults.{Rose}
 use Rattle.disk_model.specs.Images.{Image}
 use Rattle.disk_model.specs.SinkNames.{Label, SinkNames, after_client, after_return}
 use Rattle.disk_model.specs.Told.{JournalTold, TablesTold, TellsTheSame, TablesStay}
-use Rattle.flsm_core.specs.declared.state.State.{State}
 use Rattle.flsm_core.specs.declared.open_fault.OpenFault.{OpenFault}
 use Rattle.flsm_core.specs.declared.open_fault.OpenFault.TheVariants as opens
-use Rattle.disk_model.specs.declared.journal.Journal.{Ghosts}
-use Rattle.flsm_core.specs.Place.{Start, Place, opened, start_at, all_of}
-use Rattle.flsm_core.specs.Logs.{Held, HoldsLogs, ReadsAs, Stands, greatest_session}
-use Rattle.flsm_core.specs.Standing.{IsAt, IsLeftBy}
+use Rattle.flsm_core.specs.Place.{Place, opened, start_at}
+use Rattle.flsm_core.specs.Logs.{Held, HoldsLogs, ReadsAs, greatest_session}
+use Rattle.flsm_core.specs.Standing.{IsLeftBy}
 use Rattle.flsm_core.specs.Opening.{OpensOn, OpenCause, HasWatched}
+use Rattle.flsm_core.specs.Touched.{next_log_on, touched_same}
 use Rattle.script.specs.declared.cause.Cause.{Cause}
 use Rattle.script.specs.declared.cause.Cause.TheVariants as causes
-use Rattle.pebbles_cli.specs.Causes.{IsScript, OpeningCause, IsOpeningCause, RefusalCause, opening_cause}
+use Rattle.pebbles_cli.specs.Causes.{RefusalCause, opening_cause}
 use Rattle.pebbles_cli.specs.Names.{replies_label}
-use Rattle.pebbles_cli.specs.Outside.{DevicesTold, Outside}
-use Rattle.pebbles_cli.specs.Top.{Asked, IsNext, NotOpened}
+use Rattle.pebbles_cli.specs.Outside.{Outside}
+use Rattle.pebbles_cli.specs.Top.{Asked, IsNext, NotOpened, TouchesAtMost}
 
 pub same_then : {a b c : JournalTold} → TellsTheSame a b → TellsTheSame b c → TellsTheSame a c
 same_then x y = record {
@@ -98,6 +97,11 @@ watched_between a b c d first watched last = record {
     back : {image : Image} → d.left_since a.moment image → c.left_since b.moment image
     back {image} left = subst (λ (t : ℕ). c.left_since t image) (sym first.time) ((last.past a.moment image).0 left)
 
+-- what a refused opening touched is told the same before and after
+pub touches_between : (tells : Bool) (a b c d : JournalTold) → TellsTheSame a b → TouchesAtMost tells b c → TellsTheSame c d → TouchesAtMost tells a d
+touches_between tells a b c d first (inl watched) last = inl (watched_between a b c d first watched last)
+touches_between tells a b c d first (inr (file, next)) last = inr (file, next_log_on tells file a b c d first next (touched_same tells file c d last))
+
 -- what was left is told the same
 pub left_same : (p : Place) (a b : JournalTold) → TellsTheSame a b → IsLeftBy p a → IsLeftBy p b
 left_same p a b same left = record {
@@ -141,6 +145,7 @@ nothing_opened asked old cause counts only why = record {
   why = why;
   directory = inl refl;
   sinks = refl;
+  touched = inl (watched_same old.devices.journal old.devices.journal counts only (tells_itself old.devices.journal));
   untouched = λ other. watched_same old.devices.journal old.devices.journal counts only (tells_itself old.devices.journal);
   ever = λ told base on image left. on image (only image left);
   now = λ told base on image left. on image left;

@@ -1,5 +1,5 @@
 -- The numbers that replies name, and the faults that they tell.
-use Rattle.std.proofs.Common.{◌≡◌, ℕ, ◌+◌, ◌-◌, ◌<◌, ◌≤◌, Bool, true, false, List, [], ◌∷◌, ◌++◌, Option, Some, None, Result, Ok, Err, refl, sym, ap, ◌∙◌, subst, append_assoc, inl, inr, arith}
+use Rattle.std.proofs.Common.{◌≡◌, ℕ, ◌+◌, ◌-◌, ◌<◌, ◌≤◌, Bool, true, false, List, [], ◌∷◌, Option, Some, None, Result, Ok, Err, refl, sym, ap, ◌∙◌, subst, append_assoc, inl, inr, arith}
 use Rattle.std.specs.Option.{option_or}
 use Rattle.peb_base.specs.declared.op.Op.{Op}
 use Rattle.peb_base.specs.declared.limit_kind.LimitKind.{LimitKind}
@@ -17,7 +17,7 @@ use Rattle.pebbles_cli.specs.Causes.{LineCause, IsWriteLimit}
 use Rattle.pebbles_cli.specs.Numbers.{NumbersWrite, NumbersOne, AreNumbered, RunsNumber}
 use Rattle.pebbles_cli.specs.Writes.{Writes, after_write}
 use Rattle.pebbles_cli.specs.Tells.{Tells, TellsOne, write_cause}
-use Rattle.pebbles_cli.proofs.Growing.{Grows, grows_none, grows_then, grows_settled, grows_halted, has_later, has_pushed, one_grows, run_grows, stopped_write}
+use Rattle.pebbles_cli.proofs.Growing.{Grows, grows_none, grows_then, grows_settled, grows_halted, has_later, has_pushed, run_grows, stopped_write}
 
 -- ---- numbers
 

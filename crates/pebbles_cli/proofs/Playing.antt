@@ -1,13 +1,11 @@
 -- A script that is read and run.
-use Rattle.std.proofs.Common.{◌≡◌, ℕ, List, Option, Some, None, Ok, Err, sym, ◌∙◌, subst, inl, inr}
-use Rattle.peb_base.specs.declared.limit_kind.LimitKind.{LimitKind}
-use Rattle.peb_base.specs.declared.limit_kind.LimitKind.TheVariants as kinds
+use Rattle.std.proofs.Common.{◌≡◌, ℕ, List, Option, Some, None, Ok, subst}
 use Rattle.script.specs.declared.cause.Cause.{Cause}
 use Rattle.script.specs.declared.cause.Cause.TheVariants as causes
 use Rattle.script.specs.declared.command.Command.{Command}
 use Rattle.script.specs.Script.{script_of}
 use Rattle.pebbles_cli.specs.Read.{IsWhole}
-use Rattle.pebbles_cli.specs.Causes.{Says, PlayCause, IsBeforeOpening}
+use Rattle.pebbles_cli.specs.Causes.{Says, PlayCause}
 use Rattle.pebbles_cli.specs.Outside.{Outside}
 
 pub says_all : (text : Option (List ℕ)) (bytes : List ℕ) (commands : List Command) → IsWhole text bytes → script_of bytes ≡ Ok commands → Says text commands

@@ -1,9 +1,9 @@
 -- A run from its opening to its report.
-use Rattle.std.proofs.Common.{◌≡◌, ◌≢◌, ◌⊎◌, ℕ, ◌*◌, ◌^◌, ◌<◌, ◌≤◌, Bool, true, false, IsTrue, List, [], ◌∷◌, ◌++◌, take, Option, Some, None, Result, Ok, Err, refl, sym, ap, ◌∙◌, subst, inl, inr, arith}
+use Rattle.std.proofs.Common.{◌≡◌, ℕ, ◌*◌, ◌^◌, ◌<◌, ◌≤◌, Bool, true, false, IsTrue, List, [], ◌++◌, take, Option, Some, None, Result, Ok, Err, refl, sym, ap, ◌∙◌, subst, inl, inr, arith}
 use Rattle.std.specs.Result.{is_err}
 use Rattle.std.specs.Option.{option_or, unwrap_or}
 use Rattle.std.proofs.lemmas.Bool.{true≢false}
-use Rattle.peb_base.specs.Batches.{Batches, last_number}
+use Rattle.peb_base.specs.Batches.{last_number}
 use Rattle.peb_base.specs.Faults.{Rose}
 use Rattle.disk_model.specs.declared.failed.Failed.{Failed}
 use Rattle.disk_model.specs.Bytes.{Takes, IsFresh}
@@ -11,9 +11,13 @@ use Rattle.disk_model.specs.Told.{TablesStay}
 use Rattle.script.specs.declared.cause.Cause.{Cause}
 use Rattle.script.specs.declared.cause.Cause.TheVariants as causes
 use Rattle.script.specs.Report.{report_text}
+use Rattle.disk_model.specs.Told.{JournalTold}
+use Rattle.flsm_core.specs.Touched.{HasTouched, HasTouchedNextLog, HasTouchedLog, next_log_on, touched_on}
+use Rattle.pebbles_cli.proofs.Handing.{tells_itself}
+use Rattle.disk_model.specs.declared.journal_file.JournalFile.{JournalFile}
 use Rattle.flsm_core.specs.declared.sync_fault.SyncFault.{SyncFault}
 use Rattle.flsm_core.specs.declared.sync_fault.SyncFault.TheVariants as syncs
-use Rattle.flsm_core.specs.Place.{Start, Place, all_of, opened, after_sync, Syncs}
+use Rattle.flsm_core.specs.Place.{Start, Place, opened, after_sync, Syncs}
 use Rattle.pebbles_cli.specs.declared.served.Served.{Served}
 use Rattle.peb_base.specs.declared.limit_kind.LimitKind.TheVariants as kinds
 use Rattle.disk_model.specs.Directories.{after_choice, after_opening}
@@ -25,7 +29,7 @@ use Rattle.pebbles_cli.specs.Names.{replies_name}
 use Rattle.pebbles_cli.specs.Causes.{Says, IsBeforeOpening, IsOpeningCause, OpeningCause, opening_cause, IsScript, JournalRose, LineCause, ReportCause, SinkCause, PlayCause, ScriptCause, RefusalCause, sink_cause, end_of}
 use Rattle.pebbles_cli.specs.Outside.{DevicesTold, SinksTold, Outside}
 use Rattle.pebbles_cli.specs.Tells.{TookMore, sync_cause}
-use Rattle.pebbles_cli.specs.Top.{Asked, Run, Went, IsTaken, IsAnswered, IsUnheard, IsServed, RepliesStay, Closed, IsClosed, IsDone, IsNext, Ran, NotOpened, Plays, PlaysSomehow, Reports, run_report}
+use Rattle.pebbles_cli.specs.Top.{Asked, Run, Went, IsTaken, IsServed, RepliesStay, Closed, IsClosed, IsDone, IsNext, Ran, PlaysSomehow, run_report}
 use Rattle.pebbles_cli.proofs.Serving.{took_none, took_more, took_front, rose_later}
 use Rattle.pebbles_cli.proofs.Growing.{run_goes_on, run_start, sync_start}
 use Rattle.pebbles_cli.proofs.Numbering.{run_told, weaker}
@@ -235,15 +239,21 @@ taken_all (Some f) (Some s) (Some t) text unused more same =
 
 -- ---- the whole run
 
+-- an opening began a log, calls changed it, and so did the closing
+pub touched_all : (tells : Bool) (file file' : JournalFile) (a b c d : JournalTold) → HasTouchedNextLog tells file a b → HasTouchedLog tells file file' b c → HasTouched tells file' c d → HasTouchedNextLog tells file a d
+touched_all tells file file' a b c d next log last =
+    next_log_on tells file a a b d (tells_itself a) next
+    (touched_on tells file b c d log.touched (subst (λ (f : JournalFile). HasTouched tells f c d) log.log last))
+
 pub ran_of : (start : Start) (asked : Asked) (old mid new : Outside) (cause : Cause) (session : ℕ) (commands : List Command) (name : List ℕ) (went : Went) (closed : Closed)
     → IsWithin asked.text 16777216 → Says asked.text commands → (IsTrue old.devices.tells → IsNext old.devices.journal.seen session)
     → last_number start.base < session * 2 ^ 40 → session ≤ 8388607
     → new.devices.directories ≡ after_opening (after_choice asked.dir old.devices.directories) → name ≡ replies_name asked.file
     → IsServed (record { session = session; start = opened start; name = name; commands = commands }) old.sinks mid.sinks went
     → IsClosed went.place mid.sinks new closed → mid.sinks.report ≡ old.sinks.report → old.sinks.faults ≤ mid.sinks.faults
-    → cause ≡ end_of went.served.fault went.served.sink_failed (sync_cause closed.answer) closed.report → TablesStay old.devices.tables new.devices.tables
+    → cause ≡ end_of went.served.fault went.served.sink_failed (sync_cause closed.answer) closed.report → (file : JournalFile) → HasTouchedNextLog old.devices.tells file old.devices.journal new.devices.journal → TablesStay old.devices.tables new.devices.tables
     → Ran start asked old new cause
-ran_of start asked old mid new cause session commands name went closed short says next above possible directory named served closing same later ends tables =
+ran_of start asked old mid new cause session commands name went closed short says next above possible directory named served closing same later ends file touched tables =
     let run : Run = record { session = session; start = opened start; name = replies_name asked.file; commands = commands } in
     let all : IsServed run old.sinks mid.sinks went =
     subst (λ (n : List ℕ). IsServed (record { session = session; start = opened start; name = n; commands = commands }) old.sinks mid.sinks went) named served in
@@ -266,6 +276,7 @@ ran_of start asked old mid new cause session commands name went closed short say
       closing = closing;
       ends = ends;
       done = λ done. is_done run old.sinks mid.sinks new went closed all refl closing (sym ends ∙ done);
+      touched = (file, touched);
       tables = tables;
     }
 

@@ -8,10 +8,8 @@ use Rattle.disk_model.specs.Bytes.{Takes}
 use Rattle.disk_model.specs.Images.{Rose}
 use Rattle.script.specs.declared.command.Command.{Command}
 use Rattle.script.specs.declared.cause.Cause.{Cause}
-use Rattle.script.specs.declared.cause.Cause.TheVariants as causes
 use Rattle.flsm_core.specs.Place.{Place}
 use Rattle.pebbles_cli.specs.Tells.{Steps, Tells, TellsOne, Since, TookMore}
-use Rattle.pebbles_cli.specs.Causes.{LineCause}
 
 or_assoc : (a b c : Option Cause) → option_or (option_or a b) c ≡ option_or a (option_or b c)
 or_assoc None b c = refl

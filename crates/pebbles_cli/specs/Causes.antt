@@ -1,5 +1,5 @@
 -- When a run ends with which cause.
-use Rattle.std.specs.Prelude.{◌≡◌, ◌≢◌, ◌⊎◌, ℕ, ◌-◌, ◌^◌, Bool, if◌then◌else◌, List, Option, None, Some, Ok, Err}
+use Rattle.std.specs.Prelude.{◌≡◌, ◌⊎◌, ℕ, ◌-◌, ◌^◌, Bool, if◌then◌else◌, List, Option, None, Some, Ok, Err}
 use Rattle.std.specs.Option.{option_or, unwrap_or}
 use Rattle.peb_base.specs.declared.limit_kind.LimitKind.{LimitKind}
 use Rattle.peb_base.specs.declared.limit_kind.LimitKind.TheVariants as kinds

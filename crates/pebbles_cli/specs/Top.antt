@@ -10,17 +10,19 @@ use Rattle.script.specs.Report.{report_text}
 use Rattle.disk_model.specs.Directories.{after_choice, after_opening}
 use Rattle.disk_model.specs.Images.{Image}
 use Rattle.disk_model.specs.SinkNames.{after_client, after_return}
-use Rattle.disk_model.specs.Told.{TablesStay}
+use Rattle.disk_model.specs.Told.{JournalTold, TablesStay}
+use Rattle.disk_model.specs.declared.journal_file.JournalFile.{JournalFile}
 use Rattle.flsm_core.specs.declared.sync_fault.SyncFault.{SyncFault}
 use Rattle.flsm_core.specs.Place.{Start, Place, all_of, opened, start_at, after_sync, Syncs}
 use Rattle.flsm_core.specs.Logs.{Held, HoldsLogs, ReadsAs, Stands, greatest_session}
 use Rattle.flsm_core.specs.Opening.{OpensOn, HasWatched}
+use Rattle.flsm_core.specs.Touched.{HasTouchedNextLog}
 use Rattle.flsm_core.specs.Standing.{IsLeftBy}
 use Rattle.pebbles_cli.specs.declared.served.Served.{Served}
 use Rattle.pebbles_cli.specs.Causes.{Says, RefusalCause, ReportCause, end_of}
 use Rattle.pebbles_cli.specs.Names.{OpensAtMost, replies_label, replies_name}
 use Rattle.pebbles_cli.specs.Numbers.{AreNumbered}
-use Rattle.pebbles_cli.specs.Outside.{DevicesTold, SinksTold, Outside}
+use Rattle.pebbles_cli.specs.Outside.{SinksTold, Outside}
 use Rattle.pebbles_cli.specs.Read.{IsWithin}
 use Rattle.pebbles_cli.specs.Shows.{ShowsAll}
 use Rattle.pebbles_cli.specs.Tells.{Tells, TellsOne, TookMore, sync_cause}
@@ -133,6 +135,11 @@ pub record IsDone (went : Went) (closed : Closed) : Type 0 where
   pub reported : closed.report ≡ None
   pub settled : closed.place.waiting ≡ []
 
+-- no file of the journal was changed, or one, the first log that wasn't there
+abbrev pub TouchesAtMost : Bool → JournalTold → JournalTold → Type 0
+TouchesAtMost tells old new = HasWatched old new
+    ⊎ ((file : JournalFile) × HasTouchedNextLog tells file old new)
+
 -- a store was opened so, the commands of the script were run, and the store was closed
 pub record Ran (start : Start) (asked : Asked) (old new : Outside) (cause : Cause) : Type 0 where
   pub session : ℕ
@@ -161,6 +168,8 @@ pub record Ran (start : Start) (asked : Asked) (old new : Outside) (cause : Caus
       ≡ end_of went.served.fault went.served.sink_failed (sync_cause closed.answer) closed.report
   pub done : cause ≡ causes.Done → IsDone went closed
   -- what stays
+  pub touched : (file : JournalFile)
+      × HasTouchedNextLog old.devices.tells file old.devices.journal new.devices.journal
   pub tables : TablesStay old.devices.tables new.devices.tables
 
 -- no store was opened
@@ -169,8 +178,9 @@ pub record NotOpened (asked : Asked) (old new : Outside) (cause : Cause) : Type 
   pub directory : OpensAtMost asked.dir old.devices.directories new.devices.directories
   -- nothing was replied or reported
   pub sinks : new.sinks ≡ old.sinks
-  -- but for a fault of the journal, no file of it was changed
+  -- but for a fault of the journal no file of it was changed, and else its next log at most
   pub untouched : cause ≢ causes.Journal → HasWatched old.devices.journal new.devices.journal
+  pub touched : TouchesAtMost old.devices.tells old.devices.journal new.devices.journal
   -- and no crash since lost what was there, nor does one now
   pub ever : IsTrue old.devices.tells → (base : Batches)
       → OpensOn Small true base old.devices.journal.seen old.devices.journal.may_leave

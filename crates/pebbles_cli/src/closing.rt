@@ -32,6 +32,7 @@ pub fn settle<S: Store>(store: &mut S) -> Option<Cause>
     ensures stands { (p : Place) → S.stands store.old p → (closing : Result ℕ SyncFault)
         × Syncs p closing × (result ≡ sync_cause closing)
         × S.stands store.new (after_sync p closing) }
+    ensures touched { S.touched store.old store.new }
 {
     let answer = store.sync();
     sync_cause(answer)

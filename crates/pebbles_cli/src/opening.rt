@@ -8,12 +8,13 @@ ghost use Rattle.flsm_core.specs.Place.{Place, opened, start_at};
 ghost use Rattle.flsm_core.specs.Logs.{ReadsAs, Stands};
 ghost use Rattle.flsm_core.specs.Opening.{OpensOn, HasWatched};
 ghost use Rattle.flsm_core.specs.Standing.{IsAt, IsLeftBy};
-ghost use Rattle.flsm_core.specs.State.{state_session, state_journal};
+ghost use Rattle.flsm_core.specs.State.{state_session, state_journal, state_file};
+ghost use Rattle.flsm_core.specs.Touched.{HasTouchedNextLog};
 ghost use Rattle.script.specs.declared.cause.Cause.TheVariants as causes;
 ghost use Rattle.pebbles_cli.specs.Causes.{IsOpeningCause, opening_cause};
 ghost use Rattle.pebbles_cli.specs.Names.{OpensAtMost};
 ghost use Rattle.pebbles_cli.specs.Outside.{devices_told};
-ghost use Rattle.pebbles_cli.specs.Top.{IsNext};
+ghost use Rattle.pebbles_cli.specs.Top.{IsNext, TouchesAtMost};
 
 use disk_model::Devices;
 use flsm_core::{OpenFault, State};
@@ -55,6 +56,8 @@ pub fn open_store<D: Devices>(
     ensures possible { IfOk result (λ state. state_session state ≤ 8388607) }
     ensures opened { OnOk result (D.directories devices.new
         ≡ after_opening (after_choice dir.now (D.directories devices.old))) }
+    ensures next_log { IfOk result (λ state. HasTouchedNextLog D.J.tells (state_file state)
+        (D.journal_told devices.old) (told_by D.J.Journal (state_journal state))) }
     // when it fails
     ensures cause { IfErr result (λ cause. IsOpeningCause (devices_told D.J.Journal D.Devices devices.old)
         (devices_told D.J.Journal D.Devices devices.new) cause) }
@@ -63,6 +66,8 @@ pub fn open_store<D: Devices>(
         (D.directories devices.new)) }
     ensures untouched { IfErr result (λ cause. cause ≢ causes.Journal
         → HasWatched (D.journal_told devices.old) (D.journal_told devices.new)) }
+    ensures next_log_err { IfErr result (λ _. TouchesAtMost D.J.tells
+        (D.journal_told devices.old) (D.journal_told devices.new)) }
     ensures ever { IfErr result (λ cause. IsTrue D.J.tells → (base : Batches)
         → OpensOn Small true base (D.journal_told devices.old).seen (D.journal_told devices.old).may_leave
         → (image : Image)

@@ -1,10 +1,12 @@
 ghost use Rattle.std.specs.Prelude.{◌≡◌, ◌≤◌, ℕ, List, Bool, true, false, IsTrue, IfOk, Option, string_bytes};
 ghost use Rattle.peb_base.specs.declared.profile.Profile.TheVariants.{Small};
 ghost use Rattle.peb_base.specs.Batches.{Batches};
-ghost use Rattle.disk_model.specs.Told.{TablesStay};
+ghost use Rattle.disk_model.specs.Told.{TablesStay, told_by};
 ghost use Rattle.flsm_core.specs.Opening.{OpensOn};
 ghost use Rattle.flsm_core.specs.Place.{Place, start_at};
 ghost use Rattle.flsm_core.specs.Standing.{IsAt};
+ghost use Rattle.flsm_core.specs.State.{state_journal, state_file};
+ghost use Rattle.flsm_core.specs.Touched.{HasTouched};
 ghost use Rattle.pebbles_cli.specs.Causes.{IsBeforeOpening, Says, end_of};
 ghost use Rattle.pebbles_cli.specs.Names.{replies_name};
 ghost use Rattle.pebbles_cli.specs.Outside.{outside, sinks_told};
@@ -60,6 +62,8 @@ fn close_run<D: Devices, K: Sinks>(
         × (result ≡ end_of served.fault served.sink_failed (sync_cause closed.answer) closed.report)) }
     // what stays
     ensures directories { D.directories devices.new ≡ D.directories devices.old }
+    ensures touched { HasTouched D.J.tells (state_file opened) (told_by D.J.Journal (state_journal opened))
+        (D.journal_told devices.new) }
     ensures faults { D.faults devices.new ≡ D.faults devices.old }
     ensures tables { TablesStay (D.tables_told devices.old) (D.tables_told devices.new) }
 {

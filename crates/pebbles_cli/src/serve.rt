@@ -77,6 +77,7 @@ fn answer<S: Store>(store: &mut S, command: Command, out: &mut ReplyBuf) -> Opti
     ensures told { (old : Place) → S.stands store.old old → (new : Place)
         × (S.stands store.new new × TellsOne (S.session store.old) old command out.new result new) }
     ensures session { S.session store.new ≡ S.session store.old }
+    ensures touched { S.touched store.old store.new }
 {
     match command {
         Command::Put { key, value, sync } => {
@@ -104,6 +105,7 @@ pub fn serve<S: Store, K: Sink>(
         × ((TookMore (K.taken sink.old) text (K.taken sink.new))
         × Tells (TellsOne (S.session store.old)) old commands.items text result.fault result.sink_failed new)) }
     ensures session { S.session store.new ≡ S.session store.old }
+    ensures touched { S.touched store.old store.new }
     ensures label { K.label sink.new ≡ K.label sink.old }
     ensures sink { IsTrue result.sink_failed → Rose (K.faults sink.old) (K.faults sink.new) }
 {

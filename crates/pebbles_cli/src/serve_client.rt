@@ -26,6 +26,7 @@ pub fn serve_client<S: Store, K: Sinks>(
         × IsServed (record { session = S.session store.old; start = start; name = name.now; commands = commands.items })
         (sinks_told K.Sinks sinks.old) (sinks_told K.Sinks sinks.new) went) }
     ensures session { S.session store.new ≡ S.session store.old }
+    ensures touched { S.touched store.old store.new }
     // what stays
     ensures report { K.reported sinks.new ≡ K.reported sinks.old }
     ensures never_falls { K.faults sinks.old ≤ K.faults sinks.new }

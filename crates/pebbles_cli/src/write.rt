@@ -13,6 +13,7 @@ fn make_stable<S: Store>(store: &mut S, number: Number) -> Result<Number, WriteF
         → S.stands store.new (after_stable p result) }
     ensures answers { IsStable number result }
     ensures session { S.session store.new ≡ S.session store.old }
+    ensures touched { S.touched store.old store.new }
 {
     match store.sync() {
         Ok(_) => Ok(number),
@@ -38,6 +39,7 @@ pub fn write<S: Store>(
     ensures answers { (p : Place) → S.stands store.old p
         → Writes (S.session store.old) p (put_op key value ∷ []) sync result }
     ensures session { S.session store.new ≡ S.session store.old }
+    ensures touched { S.touched store.old store.new }
 {
     let number = match store.put(key, value) {
         Ok(number) => number,

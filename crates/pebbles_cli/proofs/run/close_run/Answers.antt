@@ -2,6 +2,9 @@ use Rattle.std.proofs.Common.{ℕ, Option, refl, sym, ap, ◌∙◌, subst}
 use Rattle.peb_base.specs.Faults.{Rose}
 use Rattle.script.specs.declared.cause.Cause.{Cause}
 use Rattle.flsm_core.specs.Place.{Place, after_sync}
+use Rattle.disk_model.specs.Told.{told_by}
+use Rattle.flsm_core.specs.State.{state_journal, state_file}
+use Rattle.flsm_core.specs.Touched.{touched_on, touched_same}
 use Rattle.pebbles_cli.specs.Causes.{end_of}
 use Rattle.pebbles_cli.specs.Top.{Reports}
 use Rattle.pebbles_cli.proofs.run.close_run.Goals as goal
@@ -30,3 +33,12 @@ returns-clause-closed g c = λ p at.
         c.end_of.ensures ∙ ap (λ (o : Option Cause). end_of c.args.served.fault c.args.served.sink_failed o report) settled.2,
       ),
     )
+
+pub returns-clause-touched : goal.returns-clause-touched
+returns-clause-touched g c =
+    let d = g.D.J.Journal in
+    let a = told_by d (state_journal c.args.opened) in
+    let b = told_by d (state_journal c.settle-closing.new.store) in
+    let told = g.D.Devices.journal_told c.close_store.new.devices in
+    let log = c.settle-closing.ensures.touched in
+    touched_on d.tells (state_file c.args.opened) a b told log.touched (touched_same d.tells (state_file c.args.opened) b told c.close_store.ensures.told)

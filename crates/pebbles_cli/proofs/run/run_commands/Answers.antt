@@ -1,15 +1,14 @@
-use Rattle.std.proofs.Common.{ℕ, List, Bool, false, inl, inr, refl, sym, ap, ◌∙◌, subst}
+use Rattle.std.proofs.Common.{false, inl, inr, refl, sym, ap, ◌∙◌}
 use Rattle.peb_base.specs.declared.profile.Profile.TheVariants.{Small}
-use Rattle.peb_base.specs.Batches.{Batches}
-use Rattle.flsm_core.specs.Place.{Start, Place, opened, start_at}
-use Rattle.flsm_core.specs.State.{state_session}
+use Rattle.flsm_core.specs.Place.{Start, opened, start_at}
+use Rattle.flsm_core.specs.State.{state_session, state_journal, state_file}
+use Rattle.disk_model.specs.Told.{told_by}
 use Rattle.pebbles_cli.specs.declared.served.Served.{Served}
-use Rattle.pebbles_cli.specs.Outside.{Outside, outside, devices_told}
-use Rattle.pebbles_cli.specs.Top.{Run}
+use Rattle.pebbles_cli.specs.Outside.{outside, devices_told}
 use Rattle.pebbles_cli.specs.Tells.{sync_cause}
 use Rattle.pebbles_cli.specs.Causes.{end_of}
 use Rattle.pebbles_cli.proofs.Handing.{nothing_opened, tables_then}
-use Rattle.pebbles_cli.proofs.Running.{ran_of, ran_after, opening_after}
+use Rattle.pebbles_cli.proofs.Running.{ran_of, touched_all, ran_after, opening_after}
 use Rattle.pebbles_cli.proofs.run.run_commands.Goals as goal
 
 pub returns-in_default-clause-ran : goal.returns-in_default-clause-ran
@@ -34,6 +33,7 @@ returns-in-Err-clause-ran g c = λ told text short says honest base on. inl (rec
   directory = c.in-Err.ensures.refused;
   sinks = refl;
   untouched = c.in-Err.ensures.untouched;
+  touched = c.in-Err.ensures.next_log_err;
   ever = c.in-Err.ensures.ever;
   now = λ t base on image left. c.in-Err.ensures.ever t base on image (g.met.D.Devices.counts_now c.open_store.new.devices _ image c.in-Err.ensures.later left);
   tables = c.open_store.ensures.tables;
@@ -45,6 +45,7 @@ returns-in-Err-clause-somehow g c = λ text short says. inl (record {
   directory = c.in-Err.ensures.refused;
   sinks = refl;
   untouched = c.in-Err.ensures.untouched;
+  touched = c.in-Err.ensures.next_log_err;
   ever = c.in-Err.ensures.ever;
   now = λ t base on image left. c.in-Err.ensures.ever t base on image (g.met.D.Devices.counts_now c.open_store.new.devices _ image c.in-Err.ensures.later left);
   tables = c.open_store.ensures.tables;
@@ -67,6 +68,9 @@ returns-clause-ran g c = λ told text short says honest base on.
     c.in-Ok-open_store.ensures.possible (c.close_run.ensures.directories ∙ c.in-Ok-open_store.ensures.opened) (c.as_str.ensures.value ∙ c.in-Ok.ensures) served.1.2 closed.1.0
     c.serve_client-served.ensures.report c.serve_client-served.ensures.never_falls
     (closed.1.1 ∙ ap (λ (s : Served). end_of s.fault s.sink_failed (sync_cause closed.0.answer) closed.0.report) (sym served.1.1))
+    (state_file c.in-Ok-open_store.state) (touched_all g.D.J.Journal.tells (state_file c.in-Ok-open_store.state) (state_file c.serve_client-served.new.store) old.devices.journal
+    (told_by g.D.J.Journal (state_journal c.in-Ok-open_store.state)) (told_by g.D.J.Journal (state_journal c.serve_client-served.new.store)) new.devices.journal
+    c.in-Ok-open_store.ensures.next_log c.serve_client-served.ensures.touched c.close_run.ensures.touched)
     (tables_then c.open_store.ensures.tables c.close_run.ensures.tables))
 
 pub returns-clause-somehow : goal.returns-clause-somehow
@@ -86,6 +90,9 @@ returns-clause-somehow g c = λ text short says.
             (c.close_run.ensures.directories ∙ c.in-Ok-open_store.ensures.opened) (c.as_str.ensures.value ∙ c.in-Ok.ensures) served.1.2 closed.1.0
             c.serve_client-served.ensures.report c.serve_client-served.ensures.never_falls
             (closed.1.1 ∙ ap (λ (s : Served). end_of s.fault s.sink_failed (sync_cause closed.0.answer) closed.0.report) (sym served.1.1))
+            (state_file c.in-Ok-open_store.state) (touched_all g.D.J.Journal.tells (state_file c.in-Ok-open_store.state) (state_file c.serve_client-served.new.store) old.devices.journal
+            (told_by g.D.J.Journal (state_journal c.in-Ok-open_store.state)) (told_by g.D.J.Journal (state_journal c.serve_client-served.new.store)) new.devices.journal
+            c.in-Ok-open_store.ensures.next_log c.serve_client-served.ensures.touched c.close_run.ensures.touched)
             (tables_then c.open_store.ensures.tables c.close_run.ensures.tables),
       ),
     )

@@ -1,4 +1,4 @@
-use Rattle.std.proofs.Common.{rules, ◌≡◌, ◌+◌, true, false, [], ◌∷◌, ◌++◌, length, take, refl, sym, ap, ◌∙◌, subst, arith}
+use Rattle.std.proofs.Common.{rules, ◌≡◌, ◌+◌, true, false, [], ◌∷◌, ◌++◌, length, take, refl, sym, ap, ◌∙◌, arith}
 use Rattle.std.specs.Result.{is_err}
 use Rattle.std.specs.Vec.Iter.{into_iter_items, into_iter_len}
 use Rattle.pebbles_cli.specs.Tells.{TellsOne}
@@ -23,6 +23,7 @@ loop-command-init g c =
       count = search rules;
       some = c.requires;
       session = refl;
+      touched = g.met.S.Store.touched_self c.args.store.now;
       label = refl;
       sink_later = omega arith;
     }
@@ -71,6 +72,7 @@ loop-command-preserved g c = record {
       omega (arith, fewer, lengths, c.loop-command.invariant.count);
   some = let one = c.answer-told.ensures.told c.loop-command.invariant.some.0 c.loop-command.invariant.some.1 in (one.0, one.1.0);
   session = c.answer-told.ensures.session ∙ c.loop-command.invariant.session;
+  touched = g.met.S.Store.touched_on c.args.store.now c.loop-command.store c.answer-told.new.store c.loop-command.invariant.touched c.answer-told.ensures.touched;
   label = c.put.ensures.label ∙ c.loop-command.invariant.label;
   sink_later = omega (arith, c.put.ensures.cause.later, c.loop-command.invariant.sink_later);
 }
@@ -80,3 +82,6 @@ returns-clause-told g c = λ old stands.
     let so = c.loop-command.invariant.told old stands in
     let none : length (into_iter_items c.loop-command.command-iterator) ≡ 0 = sym c.loop-command.invariant.count ∙ c.in-None.ensures.steps.0 in
     (so.0, so.1, (so.2.0, (so.2.1.0, ends (g.S.Store.session c.args.store.now) old so.1 c.args.commands.items (into_iter_items c.loop-command.command-iterator) so.0 c.loop-command.fault none so.2.1.1)))
+
+pub returns-then-is_err-clause-touched : goal.returns-then-is_err-clause-touched
+returns-then-is_err-clause-touched g c = g.met.S.Store.touched_on c.args.store.now c.loop-command.store c.answer-told.new.store c.loop-command.invariant.touched c.answer-told.ensures.touched

@@ -11,6 +11,7 @@ invariant-loop-command g l = record {
   count : into_iter_len l.command-iterator ≡ length (into_iter_items l.command-iterator);
   some : (p : Place) × g.S.Store.stands l.store p;
   session : g.S.Store.session l.store ≡ g.S.Store.session l.fn.store;
+  touched : g.S.Store.touched l.fn.store l.store;
   label : g.K.Sink.label l.sink ≡ g.K.Sink.label l.fn.sink;
   sink_later : g.K.Sink.faults l.fn.sink ≤ g.K.Sink.faults l.sink;
 }

@@ -44,3 +44,6 @@ returns-clause-served g c = λ start stands.
         }),
       ),
     )
+
+pub returns-in_default-clause-touched : goal.returns-in_default-clause-touched
+returns-in_default-clause-touched g c = g.met.S.Store.touched_self c.args.store.now

@@ -35,3 +35,6 @@ returns-in-Err-clause-answers g c = λ p stands.
     let ops = put_op c.args.key c.args.value ∷ [] in
     let session = g.S.Store.session c.args.store.now in
     subst (λ e. Writes session p ops c.args.sync (Err e)) (sym c.from.ensures) (refused_answers session p ops c.args.sync c.in-Err.fault (c.in-Err.ensures.answers p stands))
+
+pub returns-then-sync-clause-touched : goal.returns-then-sync-clause-touched
+returns-then-sync-clause-touched g c = g.met.S.Store.touched_on c.args.store.now c.put.new.self c.make_stable.new.store c.put.ensures.touched c.make_stable.ensures.touched
