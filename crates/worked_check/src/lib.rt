@@ -3,9 +3,9 @@
 
 ghost use Rattle.std.specs.Prelude.{◌≡◌};
 
-/// How many histories there are.
+/// How many histories there are: `Tiny`, `Legal0`, `Legal1` and `Deep0`.
 pub fn histories() -> usize
-    ensures { result ≡ 5 }
+    ensures { result ≡ 4 }
 {
-    5
+    4
 }
