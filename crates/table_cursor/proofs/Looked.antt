@@ -1,5 +1,5 @@
 -- What a look into one block of a table finds.
-use Rattle.std.proofs.Common.{◌≡◌, ℕ, ◌<◌, ◌∙◌, IsTrue, List, length, take, drop, Option, Some, None, Err, sym, ap, subst}
+use Rattle.std.proofs.Common.{◌≡◌, ℕ, ◌<◌, ◌∙◌, IsTrue, List, length, take, drop, Option, Some, None, Err, refl, sym, ap, subst, arith}
 use Rattle.std.specs.Prelude.{slice_get, option_map, IfSome}
 use Rattle.disk_model.specs.declared.table_handle.TableHandle.{Ghosts}
 use Rattle.peb_base.specs.Cursors.{IfDamage}
@@ -17,7 +17,8 @@ use Rattle.table_file.specs.Tables.{TableParts, Holds}
 use Rattle.table_file.specs.declared.index_item.IndexItem.{IndexItem}
 use Rattle.table_cursor.specs.Agreeing.{ShowsOf, IsDamageOf}
 use Rattle.table_cursor.specs.IndexLaws.{get_inside, item_is}
-use Rattle.table_cursor.specs.Looking.{newest_of, Finds, IsFound}
+use Rattle.table_cursor.specs.Looking.{newest_of, Finds, IsFound, IsLookedUp}
+use Rattle.table_cursor.specs.Walking.{CanBeRead}
 use Rattle.table_cursor.specs.Page.{Reading}
 use Rattle.table_cursor.specs.Standing.{joined}
 use Rattle.table_cursor.proofs.Finding.{find_inside}
@@ -78,3 +79,20 @@ module _ {F : Type 0} (g : Ghosts F) (t : TableParts F) where
           there = found.2.1;
         };
       }
+
+  pub looked_up : (key : Bytes) (number index : ℕ) (item : IndexItem) (count : ℕ) (buffer : List ℕ) → index ≡ index_for key number t.items → slice_get t.items index ≡ Some item → (read : KnownBlock g t index item count buffer)
+      → (found : Option Entry) → found ≡ newest_of key number read.entries → IsLookedUp g t key number found
+  unfolding reading_of
+  looked_up key number index item count buffer is there read found same = record {
+    beyond = λ behind. let inside = get_inside t.items index item there in absurd (omega (arith, behind, inside, is));
+    inside = λ lt. subst (λ (i : ℕ). (block : List Entry) × CanBeRead g t i block × (found ≡ newest_of key number block)) is (
+      read.entries,
+      record {
+        page = reading_of item.place item.len buffer read.entries 0;
+        shows = shows_read index item count buffer there read 0 read.form.some;
+        sorted = read.form.each;
+        is = refl;
+      },
+      same,
+    );
+  }

@@ -9,7 +9,7 @@ ghost use Rattle.block_form.specs.Form.{IsBlock};
 ghost use Rattle.disk_model.specs.Ports.{ReadsAtMost};
 ghost use Rattle.table_file.specs.Tables.{Holds};
 ghost use Rattle.table_cursor.specs.Agreeing.{IsDamageOf};
-ghost use Rattle.table_cursor.specs.Looking.{newest_of, Finds, IsFound};
+ghost use Rattle.table_cursor.specs.Looking.{newest_of, Finds, IsFound, IsLookedUp};
 
 use crate::fetching::fetch;
 use block_form::{Block, one_block};
@@ -57,6 +57,8 @@ pub fn look_up<'k, P: Port>(
     // what it gives
     ensures told { (es : List Entry) → IsTrue P.File.tells → Holds P.File.TableHandle table.now es
         → Finds (newest_of key.now number es) result }
+    ensures answers { IfOk result (λ found.
+        IsLookedUp P.File.TableHandle table.now key.now number (option_map entry_of found)) }
     ensures own { IfOk result (λ found. IfSome found (λ e. IsFound P.File.TableHandle table.now key.now number (entry_of e))) }
     // when it fails
     ensures damage { IfDamage result (IsDamageOf P.File.TableHandle table.now) }
