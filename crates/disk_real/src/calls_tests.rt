@@ -171,8 +171,10 @@ fn a_directory_that_another_made_meanwhile_is_left_alone(rt: HostRuntime) -> Res
     let mut journal = journal_over(rt, rt.alloc(), &seen)?;
     seen.has_folder.set(true);
     let made = journal.write(LOG, 0, b"a").is_err();
-    assert!(rt; made);
-    assert!(rt; !seen.has_file.get());
+    let file = seen.has_file.get();
+    seen.has_file.set(true);
+    let written = journal.write(LOG, 0, b"a").is_err();
+    assert!(rt; made && written && !file);
     Ok(())
 }
 
@@ -180,7 +182,9 @@ fn a_directory_that_another_made_meanwhile_is_left_alone(rt: HostRuntime) -> Res
 fn names_that_are_no_tables_are_skipped(rt: HostRuntime) -> Result<(), Fail> {
     let seen = Rc::new(rt.alloc(), Seen::nothing())?;
     seen.has_folder.set(true);
-    let mut port = RealPort::new(folder_over(rt, rt.alloc(), &seen)?);
+    let folder = folder_over(rt, rt.alloc(), &seen)?;
+    folder.keep_others_out()?;
+    let mut port = RealPort::new(folder);
     let numbers = port.list()?;
     assert_eq!(rt; numbers.as_slice(), [TABLE, TABLE + 1].as_slice());
     Ok(())
@@ -212,5 +216,48 @@ fn a_read_and_a_write_go_on_after_a_signal(rt: HostRuntime) -> Result<(), Fail> 
     let mut out = [0; 4];
     let count = journal.read(LOG, 0, &mut out)?;
     assert_eq!(rt; (maker.taken(), count), (3, 0));
+    Ok(())
+}
+
+#[test]
+fn a_new_log_whose_name_was_not_synced_is_not_stable(rt: HostRuntime) -> Result<(), Fail> {
+    let seen = Rc::new(rt.alloc(), Seen::nothing())?;
+    let mut journal = journal_over(rt, rt.alloc(), &seen)?;
+    journal.write(LOG, 0, b"a")?;
+    seen.fails_folder_syncs.set(true);
+    let failed = journal.sync(LOG).is_err();
+    seen.fails_folder_syncs.set(false);
+    let again = journal.sync(LOG).is_err();
+    assert!(rt; failed && again);
+    Ok(())
+}
+
+#[test]
+fn no_sync_after_a_failed_removal_is_trusted(rt: HostRuntime) -> Result<(), Fail> {
+    let seen = Rc::new(rt.alloc(), Seen::nothing())?;
+    let mut journal = journal_over(rt, rt.alloc(), &seen)?;
+    journal.write(LOG, 0, b"a")?;
+    journal.sync(LOG)?;
+    seen.fails_folder_syncs.set(true);
+    let failed = journal.drop_file(LOG).is_err();
+    seen.fails_folder_syncs.set(false);
+    let again = journal.drop_file(LOG).is_err();
+    let synced = journal.sync(LOG).is_err();
+    assert!(rt; failed && again && synced);
+    Ok(())
+}
+
+#[test]
+fn no_table_is_sealed_whose_name_was_not_synced(rt: HostRuntime) -> Result<(), Fail> {
+    let seen = Rc::new(rt.alloc(), Seen::nothing())?;
+    let mut maker = RealMaker::new(folder_over(rt, rt.alloc(), &seen)?)?;
+    maker.begin(TABLE)?;
+    seen.fails_folder_syncs.set(true);
+    let Err(_) = maker.seal() else {
+        return Err(Fail::from("sealed without a name"));
+    };
+    seen.fails_folder_syncs.set(false);
+    let again = maker.seal().is_err();
+    assert!(rt; again);
     Ok(())
 }

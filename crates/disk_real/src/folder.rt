@@ -13,7 +13,8 @@ use std::sync::Arc;
 use std::sync::atomic::Ordering;
 use std::{fs, io};
 
-/// The directory of a store, by its name. One that isn't there reads as an empty one.
+/// The directory of a store, by its name. One that wasn't there when this opening first looked reads
+/// as an empty one until this opening makes it, whatever another program makes of it meanwhile.
 ///
 /// While it is open no other program, and no other opening of it, gets in. A directory that isn't
 /// there is made with its first file, and kept from then on. Its own name is stable before the
@@ -56,13 +57,24 @@ impl<R: Files<File: KeepOut> + AllocGlobal + Clone + Drop> Folder<R> {
         format!(in self.rt.alloc(); "{folder}/{name}")
     }
 
-    /// Keeps others out of the directory, if it is there. The error is `WouldBlock` where another
-    /// is in it.
+    /// Keeps others out of the directory, if it was there when this opening first looked. The error
+    /// is `WouldBlock` where another is in it.
     pub fn keep_others_out(&self) -> io::Result<()> {
-        if self.shared.hold.get().is_some() {
+        if self.is_held() || self.shared.was_absent.load(Ordering::SeqCst) {
             return Ok(());
         }
+        self.lock()
+    }
+
+    /// Whether the directory is this opening's. One that isn't reads as an empty one.
+    pub fn is_held(&self) -> bool {
+        self.shared.hold.get().is_some()
+    }
+
+    /// Takes the lock of the directory, if it is there.
+    fn lock(&self) -> io::Result<()> {
         let Some(folder) = self.open(".")? else {
+            self.shared.was_absent.store(true, Ordering::SeqCst);
             return Ok(());
         };
         folder.keep_out()?;
@@ -79,7 +91,7 @@ impl<R: Files<File: KeepOut> + AllocGlobal + Clone + Drop> Folder<R> {
     pub fn make(&self) -> io::Result<()> {
         if self.shared.hold.get().is_none() {
             fs::create_dir(&self.rt, self.name.as_str())?;
-            self.keep_others_out()?;
+            self.lock()?;
         }
         if self.shared.is_named.load(Ordering::SeqCst) {
             return Ok(());
@@ -99,6 +111,9 @@ impl<R: Files<File: KeepOut> + AllocGlobal + Clone + Drop> Folder<R> {
 
     /// Takes a file away. One that isn't there is none the less Ok. Gives whether it was there.
     pub fn remove(&self, name: impl Display + Drop) -> io::Result<bool> {
+        if !self.is_held() {
+            return Ok(false);
+        }
         match fs::remove_file(&self.rt, self.path_of(name)?) {
             Ok(()) => Ok(true),
             Err(error) if error.kind() == ErrorKind::NotFound => Ok(false),

@@ -139,6 +139,9 @@ impl<R: Files<File: KeepOut> + AllocGlobal + Clone + Drop> JournalFolder<R> {
     }
 
     fn open(&self, file: JournalFile) -> io::Result<Option<Opened<R::File>>> {
+        if !self.folder.is_held() {
+            return Ok(None);
+        }
         let path = self.folder.path_of(file.file_name())?;
         match self.open_path(path.as_str()) {
             Ok(handle) => Ok(Some(Opened { file, handle })),

@@ -95,6 +95,7 @@ impl<R: Files<File: KeepOut> + Wait + AllocGlobal + Clone + Drop> RealDevices<R>
         ensures directory { IfOk result (λ journal. Some (string_bytes journal.folder.folder.name)
             ≡ self.now.directories.chosen) }
         ensures faults { IfOk result (λ journal. journal.faults ≡ self.now.journal_faults) }
+        ensures trust { IfOk result (λ journal. journal.is_trusted ≡ self.now.is_trusted) }
     {
         let files = JournalFolder::new(self.chosen()?);
         Ok(RealJournal::new(files, self.is_trusted, self.journal_faults))

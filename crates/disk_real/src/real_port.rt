@@ -56,6 +56,9 @@ impl<R: Files<File: KeepOut> + Wait + AllocGlobal + Clone + Drop> RealPort<R> {
     fn look_for(&self, number: u64) -> io::Result<Option<RealTable<R>>>
         ensures { IfOk result (λ found. IfSome found (λ table. table.number ≡ number)) }
     {
+        if !self.folder.is_held() {
+            return Ok(None);
+        }
         // The handle comes first, so that the file stays from when it was looked for.
         let table = RealTable::new(&self.folder, number)?;
         match table.look() {
@@ -78,6 +81,9 @@ impl<R: Files<File: KeepOut> + Wait + AllocGlobal + Clone + Drop> RealPort<R> {
     /// The numbers of all files in the directory that are named as a table's.
     fn numbers(&self) -> io::Result<Vec<u64>> {
         let mut numbers = Vec::new(self.folder.rt.alloc());
+        if !self.folder.is_held() {
+            return Ok(numbers);
+        }
         let entries = match fs::read_dir(&self.folder.rt, self.folder.name()) {
             Ok(entries) => entries,
             Err(error) if error.kind() == ErrorKind::NotFound => return Ok(numbers),

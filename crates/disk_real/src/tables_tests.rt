@@ -97,3 +97,26 @@ fn a_retired_table_goes_with_its_last_handle_and_a_removed_one_at_once(
     assert_eq!(rt; removed, 0);
     Ok(())
 }
+
+#[test]
+fn a_fork_finds_the_same_handles(rt: HostRuntime) -> Result<(), Fail> {
+    let name = "tables-fork";
+    let mut devices = devices_over(rt, name)?;
+    let mut maker = devices.maker()?;
+    maker.begin(NUMBER)?;
+    let first = maker.seal()?;
+    let mut port = devices.port()?;
+    let mut fork = port.fork()?;
+    let second = fork.find(NUMBER)?.ok_or("no table")?;
+    maker.retire(&first)?;
+    drop(first);
+    let held = port.list()?.len();
+    drop(second);
+    let gone = port.list()?.len();
+    port.join(fork);
+    devices.back_port(port);
+    devices.back_maker(maker);
+    fs::remove_dir_all(&rt, name)?;
+    assert_eq!(rt; (held, gone), (1, 0));
+    Ok(())
+}

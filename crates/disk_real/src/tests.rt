@@ -1,7 +1,7 @@
 //! Each adapter over real files once.
 
 use crate::{RealDevices, RealScripts, RealSinks};
-use disk_model::{Devices, Journal, JournalFile, Scripts, Sink, Sinks};
+use disk_model::{Devices, Journal, JournalFile, Port, Scripts, Sink, Sinks};
 use std::fs;
 use std::test::Fail;
 
@@ -81,5 +81,52 @@ fn replies_are_in_the_file_as_they_are_given(rt: HostRuntime) -> Result<(), Fail
     assert_eq!(rt; early.as_str(), "ab");
     assert_eq!(rt; text.as_str(), "abcd");
     assert!(rt; refused);
+    Ok(())
+}
+
+#[test]
+fn each_file_of_the_journal_is_a_file_of_its_own(rt: HostRuntime) -> Result<(), Fail> {
+    let mut devices = RealDevices::new(rt);
+    devices.set("journal-files")?;
+    let mut journal = devices.journal()?;
+    journal.write(LOG, 0, b"one")?;
+    journal.write(JournalFile::Log(2), 0, b"three")?;
+    journal.write(JournalFile::ManifestA, 0, b"m")?;
+    let sizes = (
+        journal.size(LOG)?,
+        journal.size(JournalFile::Log(2))?,
+        journal.size(JournalFile::ManifestA)?,
+        journal.size(JournalFile::ManifestB)?,
+    );
+    devices.back(journal);
+    fs::remove_dir_all(&rt, "journal-files")?;
+    assert_eq!(rt; sizes, (Some(3), Some(5), Some(1), None));
+    Ok(())
+}
+
+#[test]
+fn a_log_that_another_made_meanwhile_is_left_alone(rt: HostRuntime) -> Result<(), Fail> {
+    let mut devices = RealDevices::new(rt);
+    devices.set("made-meanwhile")?;
+    let mut journal = devices.journal()?;
+    let absent = journal.size(LOG)?;
+    let mut others = RealDevices::new(rt);
+    others.set("made-meanwhile")?;
+    let mut other = others.journal()?;
+    other.write(LOG, 0, b"other")?;
+    other.sync(LOG)?;
+    others.back(other);
+    drop(others);
+    let mut port = devices.port()?;
+    let tables = port.list()?.len();
+    devices.back_port(port);
+    let _ = journal.drop_file(LOG);
+    let written = journal.write(LOG, 0, b"a").is_ok();
+    let _ = journal.drop_file(LOG);
+    devices.back(journal);
+    let text = fs::read_to_string(&rt, "made-meanwhile/log-1")?;
+    fs::remove_dir_all(&rt, "made-meanwhile")?;
+    assert_eq!(rt; (absent, tables, written), (None, 0, false));
+    assert_eq!(rt; text.as_str(), "other");
     Ok(())
 }

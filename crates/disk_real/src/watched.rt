@@ -19,6 +19,8 @@ pub struct Seen {
     pub folder_syncs: Cell<u8>,
     pub parent_syncs: Cell<u8>,
     pub fails_syncs: Cell<bool>,
+    /// Whether syncs of the directory alone fail.
+    pub fails_folder_syncs: Cell<bool>,
     /// Whether another program is in the directory.
     pub is_taken: Cell<bool>,
     /// Whether the file that is there may only be read.
@@ -37,6 +39,7 @@ impl Seen {
             folder_syncs: Cell::new(0),
             parent_syncs: Cell::new(0),
             fails_syncs: Cell::new(false),
+            fails_folder_syncs: Cell::new(false),
             is_taken: Cell::new(false),
             is_read_only: Cell::new(false),
             is_interrupted: Cell::new(false),
@@ -157,7 +160,8 @@ impl OpenFile for WatchedFile {
     }
 
     fn sync_all(&self) -> io::Result<()> {
-        if self.seen.fails_syncs.get() {
+        let folder_fails = self.kind == Kind::Folder && self.seen.fails_folder_syncs.get();
+        if self.seen.fails_syncs.get() || folder_fails {
             return Err(io::Error::from(ErrorKind::Other));
         }
         let count = match self.kind {
