@@ -1,8 +1,8 @@
 //! Cursors over sorted entries.
 
-ghost use Rattle.std.specs.Prelude.{◌≡◌, ◌≤◌, ◌<◌, ◌++◌, ◌∷◌, [], ℕ, List, Option, Some, None, IsOk, OnOk, OnErr, option_map};
+ghost use Rattle.std.specs.Prelude.{◌≡◌, ◌↔◌, ◌≤◌, ◌<◌, ◌++◌, ◌∷◌, [], ℕ, false, List, Option, Some, None, IsOk, OnOk, OnErr, option_map};
 ghost use Rattle.peb_base.specs.EntryRefs.{entry_of};
-ghost use Rattle.peb_base.specs.Entries.{IsEntry};
+ghost use Rattle.peb_base.specs.Entries.{IsEntry, comes_before, entry_lt};
 ghost use Rattle.peb_base.specs.Cursors.{place_from, first_place, last_place, next_place, previous_place, StandsAmong, LeadsTo, CountsFaults, IfDamage, ComesBeforeNone, refusal};
 ghost use Rattle.peb_base.specs.declared.entry.Entry.{Entry};
 ghost use Rattle.peb_base.specs.declared.read_fault.ReadFault.{ReadFault};
@@ -48,11 +48,13 @@ pub trait Cursor {
     /// What the last call that moves it refused with.
     ghost refused: { Self → Option ReadFault };
 
-    /// Goes to the first entry at or behind this key and number, or to no place where all come before.
+    /// Goes to the first entry at or behind this key and number, or to no place where all come before. What it shows then
+    /// doesn't come before them, over any device.
     fn seek(&mut self, key: &[u8], number: Number) -> Result<(), ReadFault>
         // what it gives
         ensures goes { (es : List Entry) (place : Option ℕ) → stands self.old es place →
             LeadsTo (stands self.new es) (place_from key.now number es) result }
+        ensures behind { (e : Entry) → shows self.new ≡ Some e → comes_before e.key e.number key.now number ≡ false }
         // what it leaves
         ensures nothing { OnErr result (shows self.new ≡ None) }
         ensures refused { refused self.new ≡ refusal result }
@@ -109,11 +111,13 @@ pub trait Cursor {
         // what stays
         ensures keeps { keeps self.old self.new };
 
-    /// Goes one entry back, or to no place before the first. At no place it answers Ok and stays there.
+    /// Goes one entry back, or to no place before the first. At no place it answers Ok and stays there. What it shows then
+    /// doesn't come behind what it showed, over any device.
     fn prev(&mut self) -> Result<(), ReadFault>
         // what it gives
         ensures goes { (es : List Entry) (place : Option ℕ) → stands self.old es place →
             LeadsTo (stands self.new es) (previous_place place) result }
+        ensures falls { (e f : Entry) → shows self.old ≡ Some e → shows self.new ≡ Some f → entry_lt e f ≡ false }
         ensures fewer { (e : Entry) → shows self.old ≡ Some e → back self.new < back self.old }
         ensures stays { shows self.old ≡ None → IsOk result × (shows self.new ≡ None) }
         // what it leaves
@@ -152,6 +156,9 @@ pub trait Cursor {
 
     /// What stays the same over two spans of moves stays so over both.
     ghost kept_on: { (a b c : Self) → keeps a b → keeps b c → keeps a c };
+
+    /// Damage stands where it stood, whatever moves were made.
+    ghost kept_damage: { (a b : Self) (number at : ℕ) → keeps a b → damaged a number at ↔ damaged b number at };
 
     /// No move changes the number of steps from end to end.
     ghost kept_size: { (a b : Self) → keeps a b → size b ≡ size a };
