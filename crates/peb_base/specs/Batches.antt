@@ -11,7 +11,8 @@ Batches = List (ℕ × List Op)
 -- the entries of one batch: its operations, numbered from first
 abbrev pub numbered : ℕ → List Op → List Entry
 numbered first [] = []
-numbered first (op ∷ ops) = record { key = op.key; number = first; change = op.change } ∷ numbered (suc first) ops
+numbered first (op ∷ ops) =
+    record { key = op.key; number = first; change = op.change } ∷ numbered (suc first) ops
 
 -- all operations with their numbers, in their order
 abbrev pub entries_of : Batches → List Entry
@@ -23,7 +24,8 @@ abbrev pub last_number : Batches → ℕ
 last_number [] = 0
 last_number (b ∷ bs) = max (b.0 + length b.1 - 1) (last_number bs)
 
--- each first number is above low and above all numbers before it, no batch is empty, and each lies in one session
+-- each first number is above low and above all numbers before it, no batch
+-- is empty, and each lies in one session
 abbrev pub ordered_above : ℕ → Batches → Bool
 ordered_above low [] = true
 ordered_above low (b ∷ bs) =
@@ -42,4 +44,5 @@ is_boundary n (b ∷ bs) = n == b.0 + length b.1 - 1 || is_boundary n bs
 -- the batches whose numbers are all at most n
 abbrev pub batches_to : ℕ → Batches → Batches
 batches_to n [] = []
-batches_to n (b ∷ bs) = if nat_le (b.0 + length b.1 - 1) n then b ∷ batches_to n bs else batches_to n bs
+batches_to n (b ∷ bs) =
+    if nat_le (b.0 + length b.1 - 1) n then b ∷ batches_to n bs else batches_to n bs

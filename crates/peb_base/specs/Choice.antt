@@ -25,7 +25,9 @@ folded s x = bit_xor x (x / 2 ^ s)
 
 -- FNV-1a and then the finalizer of SplitMix64
 unfoldable pub mixed : Bytes → ℕ
-mixed key = folded 31 (folded 27 (folded 30 (fnv1a fnv_start key) * 0xBF58476D1CE4E5B9 % 2 ^ 64) * 0x94D049BB133111EB % 2 ^ 64)
+mixed key =
+    folded 31 (folded 27 (folded 30 (fnv1a fnv_start key) * 0xBF58476D1CE4E5B9 % 2 ^ 64)
+    * 0x94D049BB133111EB % 2 ^ 64)
 
 -- how many one bits the hash of a key ends in
 unfoldable pub bits : HashKind → Bytes → ℕ
@@ -43,7 +45,8 @@ meets o level key = nat_le (need o level) (bits o.hash key)
 -- the shallowest of so many levels from this one on whose need the key meets
 abbrev pub level_from : Column → Bytes → ℕ → ℕ → Option ℕ
 level_from o key level zero = None
-level_from o key level (suc count) = if meets o level key then Some level else level_from o key (suc level) count
+level_from o key level (suc count) =
+    if meets o level key then Some level else level_from o key (suc level) count
 
 -- the shallowest level whose need the key meets
 abbrev pub level_of : Column → Bytes → Option ℕ

@@ -40,7 +40,8 @@ abbrev pub entry_at : List Entry → Option ℕ → Option Entry
 entry_at es None = None
 entry_at es (Some n) = slice_get es n
 
--- a cursor that shows this stands there: its entries are sorted, its place is one of theirs or none, and it shows the entry at its place
+-- a cursor that shows this stands there: its entries are sorted, its place is one of
+-- theirs or none, and it shows the entry at its place
 pub record StandsAmong (es : List Entry) (place : Option ℕ) (shown : Option Entry) : Type 0 where
   pub sorted : AreSorted es
   pub inside : IfSome place (λ n. n < length es)

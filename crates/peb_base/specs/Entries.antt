@@ -46,7 +46,8 @@ pub record IsEntry (e : Entry) : Type 0 where
 -- entries within their limits that ascend strictly, all behind this key and number
 abbrev pub AscendFrom : Bytes → ℕ → List Entry → Type 0
 AscendFrom key number [] = Unit {0}
-AscendFrom key number (e ∷ es) = IsEntry e × (comes_before key number e.key e.number ≡ true) × AscendFrom e.key e.number es
+AscendFrom key number (e ∷ es) =
+    IsEntry e × (comes_before key number e.key e.number ≡ true) × AscendFrom e.key e.number es
 
 -- entries within their limits that ascend strictly
 abbrev pub AreSorted : List Entry → Type 0
@@ -55,4 +56,5 @@ AreSorted es = AscendFrom [] 0 es
 -- the place of the first entry at or behind this key and number, or the length where all come before
 abbrev pub first_from : Bytes → ℕ → List Entry → ℕ
 first_from key number [] = 0
-first_from key number (e ∷ es) = if comes_before e.key e.number key number then suc (first_from key number es) else 0
+first_from key number (e ∷ es) =
+    if comes_before e.key e.number key number then suc (first_from key number es) else 0

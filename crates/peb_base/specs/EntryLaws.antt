@@ -20,11 +20,14 @@ decided Greater below = false
 
 -- the entry order by one comparison of keys
 pub comes_before_by : (key : Bytes) (number : ℕ) (later : Bytes) (lower : ℕ)
-    → comes_before key number later lower ≡ decided (slice_cmp nat_cmp key later) (nat_lt lower number)
+    → comes_before key number later lower
+    ≡ decided (slice_cmp nat_cmp key later) (nat_lt lower number)
 comes_before_by key number later lower =
-    ap (λ same. key_lt key later || (same && nat_lt lower number)) (sym (is_eq-slice_cmp key later)) ∙ by (slice_cmp nat_cmp key later)
+    ap (λ same. key_lt key later || (same && nat_lt lower number)) (sym (is_eq-slice_cmp key later))
+    ∙ by (slice_cmp nat_cmp key later)
   where
-    by : (o : Ordering) → (is_lt o || (is_eq o && nat_lt lower number)) ≡ decided o (nat_lt lower number)
+    by : (o : Ordering)
+        → (is_lt o || (is_eq o && nat_lt lower number)) ≡ decided o (nat_lt lower number)
     by Less = refl
     by Equal = refl
     by Greater = refl
@@ -35,44 +38,63 @@ lower_still n m o h g = grind (arith, nat_tests, h, g)
 not_both : (n m : ℕ) → nat_lt m n ≡ true → nat_lt n m ≡ false
 not_both n m h = grind (arith, nat_tests, h)
 
-split_by : (k : Bytes) (n : ℕ) (l : Bytes) (m : ℕ) (j : Bytes) (o : ℕ) → decided (slice_cmp nat_cmp k j) (nat_lt o n) ≡ true
-    → decided (slice_cmp nat_cmp k l) (nat_lt m n) ≡ false → decided (slice_cmp nat_cmp l j) (nat_lt o m) ≡ true
+split_by : (k : Bytes) (n : ℕ) (l : Bytes) (m : ℕ) (j : Bytes) (o : ℕ)
+    → decided (slice_cmp nat_cmp k j) (nat_lt o n) ≡ true
+    → decided (slice_cmp nat_cmp k l) (nat_lt m n) ≡ false
+    → decided (slice_cmp nat_cmp l j) (nat_lt o m) ≡ true
 split_by k n l m j o h g = by (slice_cmp nat_cmp k l) refl (slice_cmp nat_cmp k j) refl
   where
-    by : (a : Ordering) → slice_cmp nat_cmp k l ≡ a → (b : Ordering) → slice_cmp nat_cmp k j ≡ b → decided (slice_cmp nat_cmp l j) (nat_lt o m) ≡ true
+    by : (a : Ordering) → slice_cmp nat_cmp k l ≡ a → (b : Ordering) → slice_cmp nat_cmp k j ≡ b
+        → decided (slice_cmp nat_cmp l j) (nat_lt o m) ≡ true
     by Less a b bs = absurd (true≢false (sym (ap (λ c. decided c (nat_lt m n)) a) ∙ g))
-    by Equal a Less b = ap (λ c. decided c (nat_lt o m)) (sym (nat_list_cmp_total.congr k l j a) ∙ b)
+    by Equal a Less b =
+        ap (λ c. decided c (nat_lt o m)) (sym (nat_list_cmp_total.congr k l j a) ∙ b)
     by Equal a Equal b =
         let low : nat_lt o n ≡ true = sym (ap (λ c. decided c (nat_lt o n)) b) ∙ h in
         let high : nat_lt m n ≡ false = sym (ap (λ c. decided c (nat_lt m n)) a) ∙ g in
-        ap (λ c. decided c (nat_lt o m)) (sym (nat_list_cmp_total.congr k l j a) ∙ b) ∙ lower_still n m o low high
+        ap (λ c. decided c (nat_lt o m)) (sym (nat_list_cmp_total.congr k l j a) ∙ b)
+        ∙ lower_still n m o low high
     by Equal a Greater b = absurd (false≢true (sym (ap (λ c. decided c (nat_lt o n)) b) ∙ h))
     by Greater a Less b =
-        ap (λ c. decided c (nat_lt o m)) (nat_list_cmp_total.trans l k j (nat_list_cmp_total.antisymm l k ∙ ap ordering_reverse a) b)
+        ap (λ c. decided c (nat_lt o m))
+        (nat_list_cmp_total.trans l k j
+        (nat_list_cmp_total.antisymm l k ∙ ap ordering_reverse a) b)
     by Greater a Equal b =
-        ap (λ c. decided c (nat_lt o m)) (nat_list_cmp_total.antisymm l j ∙ ap ordering_reverse (sym (nat_list_cmp_total.congr k j l b) ∙ a))
+        ap (λ c. decided c (nat_lt o m))
+        (nat_list_cmp_total.antisymm l j
+        ∙ ap ordering_reverse (sym (nat_list_cmp_total.congr k j l b) ∙ a))
     by Greater a Greater b = absurd (false≢true (sym (ap (λ c. decided c (nat_lt o n)) b) ∙ h))
 
 -- where a comes before c, and not before b, b comes before c
-pub before_split : (k : Bytes) (n : ℕ) (l : Bytes) (m : ℕ) (j : Bytes) (o : ℕ) → comes_before k n j o ≡ true → comes_before k n l m ≡ false → comes_before l m j o ≡ true
-before_split k n l m j o h g = comes_before_by l m j o ∙ split_by k n l m j o (sym (comes_before_by k n j o) ∙ h) (sym (comes_before_by k n l m) ∙ g)
+pub before_split : (k : Bytes) (n : ℕ) (l : Bytes) (m : ℕ) (j : Bytes) (o : ℕ)
+    → comes_before k n j o ≡ true → comes_before k n l m ≡ false → comes_before l m j o ≡ true
+before_split k n l m j o h g = comes_before_by l m j o
+    ∙ split_by k n l m j o (sym (comes_before_by k n j o) ∙ h) (sym (comes_before_by k n l m) ∙ g)
 
-asym_by : (k : Bytes) (n : ℕ) (l : Bytes) (m : ℕ) → decided (slice_cmp nat_cmp k l) (nat_lt m n) ≡ true → decided (slice_cmp nat_cmp l k) (nat_lt n m) ≡ false
+asym_by : (k : Bytes) (n : ℕ) (l : Bytes) (m : ℕ)
+    → decided (slice_cmp nat_cmp k l) (nat_lt m n) ≡ true
+    → decided (slice_cmp nat_cmp l k) (nat_lt n m) ≡ false
 asym_by k n l m h = by (slice_cmp nat_cmp k l) refl
   where
-    by : (a : Ordering) → slice_cmp nat_cmp k l ≡ a → decided (slice_cmp nat_cmp l k) (nat_lt n m) ≡ false
-    by Less a = ap (λ c. decided c (nat_lt n m)) (nat_list_cmp_total.antisymm l k ∙ ap ordering_reverse a)
+    by : (a : Ordering) → slice_cmp nat_cmp k l ≡ a
+        → decided (slice_cmp nat_cmp l k) (nat_lt n m) ≡ false
+    by Less a = ap (λ c. decided c (nat_lt n m))
+        (nat_list_cmp_total.antisymm l k ∙ ap ordering_reverse a)
     by Equal a =
         let low : nat_lt m n ≡ true = sym (ap (λ c. decided c (nat_lt m n)) a) ∙ h in
-        ap (λ c. decided c (nat_lt n m)) (nat_list_cmp_total.antisymm l k ∙ ap ordering_reverse a) ∙ not_both n m low
+        ap (λ c. decided c (nat_lt n m)) (nat_list_cmp_total.antisymm l k ∙ ap ordering_reverse a)
+        ∙ not_both n m low
     by Greater a = absurd (false≢true (sym (ap (λ c. decided c (nat_lt m n)) a) ∙ h))
 
 -- of two keys and numbers only one comes before the other
-pub before_asym : (k : Bytes) (n : ℕ) (l : Bytes) (m : ℕ) → comes_before k n l m ≡ true → comes_before l m k n ≡ false
-before_asym k n l m h = comes_before_by l m k n ∙ asym_by k n l m (sym (comes_before_by k n l m) ∙ h)
+pub before_asym : (k : Bytes) (n : ℕ) (l : Bytes) (m : ℕ) → comes_before k n l m ≡ true
+    → comes_before l m k n ≡ false
+before_asym k n l m h =
+    comes_before_by l m k n ∙ asym_by k n l m (sym (comes_before_by k n l m) ∙ h)
 
 -- the entry order is transitive
-pub before_trans : (k : Bytes) (n : ℕ) (l : Bytes) (m : ℕ) (j : Bytes) (o : ℕ) → comes_before k n l m ≡ true → comes_before l m j o ≡ true → comes_before k n j o ≡ true
+pub before_trans : (k : Bytes) (n : ℕ) (l : Bytes) (m : ℕ) (j : Bytes) (o : ℕ)
+    → comes_before k n l m ≡ true → comes_before l m j o ≡ true → comes_before k n j o ≡ true
 before_trans k n l m j o h g = by (comes_before k n j o) refl
   where
     by : (t : Bool) → comes_before k n j o ≡ t → comes_before k n j o ≡ true

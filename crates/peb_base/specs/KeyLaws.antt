@@ -29,7 +29,8 @@ lt_split a b c h nb = by (slice_cmp nat_cmp a b) refl
     by Less e = absurd (true≢false (sym (ap is_lt e) ∙ nb))
     by Equal e = ap is_lt (sym (nat_list_cmp_total.congr a b c e)) ∙ h
     by Greater e =
-        let ba : slice_cmp nat_cmp b a ≡ Less = nat_list_cmp_total.antisymm b a ∙ ap ordering_reverse e in
+        let ba : slice_cmp nat_cmp b a ≡ Less = nat_list_cmp_total.antisymm b a
+        ∙ ap ordering_reverse e in
         ap is_lt (nat_list_cmp_total.trans b a c ba (less a c h))
 
 pub le_lt : (a b c : Bytes) → key_le a b ≡ true → key_lt b c ≡ true → key_lt a c ≡ true

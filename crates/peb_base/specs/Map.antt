@@ -15,7 +15,9 @@ Map = List (Bytes × Bytes)
 abbrev pub set_key : Bytes → Bytes → Map → Map
 set_key k v [] = (k, v) ∷ []
 set_key k v (p ∷ ps) =
-    if key_lt k p.0 then (k, v) ∷ p ∷ ps else if key_eq k p.0 then (k, v) ∷ ps else p ∷ set_key k v ps
+    if key_lt k p.0 then (k, v) ∷ p ∷ ps
+    else if key_eq k p.0 then (k, v) ∷ ps
+    else p ∷ set_key k v ps
 
 -- the map without the key
 abbrev pub remove_key : Bytes → Map → Map
@@ -55,4 +57,5 @@ rows m lo hi limit = take limit (filter (λ p. key_le lo p.0 && is_under p.0 hi)
 
 -- the same range from the greatest key downwards
 abbrev pub reversed_rows : Map → Bytes → Bytes → ℕ → Map
-reversed_rows m lo hi limit = take limit (reverse (filter (λ p. key_le lo p.0 && is_under p.0 hi) m))
+reversed_rows m lo hi limit =
+    take limit (reverse (filter (λ p. key_le lo p.0 && is_under p.0 hi) m))

@@ -18,5 +18,25 @@ pub record Column : Type 0 where
 
 -- the column of each profile
 abbrev pub column : Profile → Column
-column Normal = record { last_level = 5; top_bits = 16; decrement = 2; guard_tables = 4; zero_tables = 4; mem_limit = 4194304; block_bytes = 4096; hash = Mixed }
-column Small = record { last_level = 3; top_bits = 4; decrement = 1; guard_tables = 2; zero_tables = 2; mem_limit = 1024; block_bytes = 256; hash = LastByte }
+column Normal = record {
+  last_level = 5;
+  top_bits = 16;
+  decrement = 2;
+  guard_tables =
+      4;
+  zero_tables = 4;
+  mem_limit = 4194304;
+  block_bytes = 4096;
+  hash = Mixed;
+}
+column Small = record {
+  last_level = 3;
+  top_bits = 4;
+  decrement = 1;
+  guard_tables = 2;
+  zero_tables =
+      2;
+  mem_limit = 1024;
+  block_bytes = 256;
+  hash = LastByte;
+}

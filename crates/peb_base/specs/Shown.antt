@@ -19,4 +19,5 @@ put_of k Delete = []
 
 -- of each key the newest entry numbered at most n, without deletions
 abbrev pub shown : List Entry → ℕ → Map
-shown es n = flat_map (λ (e : Entry). put_of e.key e.change) (firsts (in_order (filter (λ (e : Entry). nat_le e.number n) es)))
+shown es n = flat_map (λ (e : Entry). put_of e.key e.change)
+    (firsts (in_order (filter (λ (e : Entry). nat_le e.number n) es)))

@@ -38,15 +38,18 @@ common_prefix [] ys = 0
 common_prefix (x ∷ xs) [] = 0
 common_prefix (x ∷ xs) (y ∷ ys) = if x == y then suc (common_prefix xs ys) else 0
 
--- how much of its key an entry shares with the key before it, behind so many entries of its block: nothing at every sixteenth
+-- how much of its key an entry shares with the key before it, behind so many
+-- entries of its block: nothing at every sixteenth
 abbrev pub shared_length : ℕ → Bytes → Bytes → ℕ
 shared_length places before key = if places % 16 == 0 then 0 else common_prefix before key
 
 -- the length of an entry behind so many entries of its block
 abbrev pub entry_length : ℕ → Bytes → Entry → ℕ
-entry_length places before e = 17 + (length e.key - shared_length places before e.key) + length (value_of e.change)
+entry_length places before e =
+    17 + (length e.key - shared_length places before e.key) + length (value_of e.change)
 
--- the length of a block of so many entries with these lengths together: kind byte, entries, a place for every sixteen entries, and their number
+-- the length of a block of so many entries with these lengths together: kind byte, entries, a
+-- place for every sixteen entries, and their number
 abbrev pub block_length : ℕ → ℕ → ℕ
 block_length places size = 1 + size + 4 * ((places + 15) / 16) + 4
 
@@ -56,7 +59,8 @@ item_length last = 22 + length last
 
 -- the lengths of blocks and index items, behind the entries of a begun block
 abbrev pub body_length : ℕ → ℕ → ℕ → Bytes → List Entry → ℕ
-body_length full places size before [] = if places == 0 then 0 else block_length places size + item_length before
+body_length full places size before [] =
+    if places == 0 then 0 else block_length places size + item_length before
 body_length full places size before (e ∷ es) =
     let grown = size + entry_length places before e in
     if nat_le full (block_length (suc places) grown)
@@ -73,7 +77,8 @@ table_length o es = body_length o.block_bytes 0 0 [] es + 4 + filter_length (len
 
 -- the row of a table of this tier is in its form: its keys and its numbers are in order, and it has entries
 abbrev pub is_row : ℕ → TableRow → Bool
-is_row tier row = key_le row.smallest row.largest && nat_le row.first row.last && nat_lt 0 row.entries && row.tier == tier
+is_row tier row = key_le row.smallest row.largest && nat_le row.first row.last
+    && nat_lt 0 row.entries && row.tier == tier
 
 -- the row tells the keys, counts and numbers of these entries
 pub record IsRowOf (row : TableRow) (es : List Entry) : Type 0 where

@@ -24,7 +24,8 @@ pub trait HasRow {
         ensures { result.now ≡ the_row self.now };
 
     /// Its entries are sorted, and its row is theirs.
-    ghost agrees: { (table : Self) (es : List Entry) → holds table es → AreSorted es × IsRowOf (the_row table) es };
+    ghost agrees: { (table : Self) (es : List Entry) → holds table es → AreSorted es
+        × IsRowOf (the_row table) es };
 }
 
 impl<X: HasRow> HasRow for Arc<X, Global> {

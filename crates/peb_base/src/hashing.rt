@@ -21,7 +21,8 @@ fn fnv1a(key: &[u8]) -> u64
     hash
 }
 
-/// The hash of a key by which filters and the profile `normal` go: 64-bit FNV-1a, then the finalizer of SplitMix64.
+/// The hash of a key by which filters and the profile `normal` go: 64-bit
+/// FNV-1a, then the finalizer of SplitMix64.
 #[tactic(auto, unfolding(crate::specs::Choice::mixed))]
 pub fn mixed(key: &[u8]) -> u64
     ensures { result ≡ choice.mixed key.now }

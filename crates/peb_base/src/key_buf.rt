@@ -6,7 +6,8 @@ use std::marker::Model;
 
 /// Room for a key of at most 1024 bytes, in place. It takes no memory.
 ///
-/// A key that shares its beginning with the one before is put behind that beginning, so that no byte is copied twice.
+/// A key that shares its beginning with the one before is put behind that
+/// beginning, so that no byte is copied twice.
 #[derive(Debug, Drop)]
 pub struct KeyBuf {
     room: [u8; 1024],

@@ -13,7 +13,8 @@ pub fn is_below(key: &[u8], other: &[u8]) -> bool
     key.cmp(other).is_lt()
 }
 
-/// Whether the first key and number, as `Number::packed` gives it, come before the second ones, in entry order.
+/// Whether the first key and number, as `Number::packed` gives it, come
+/// before the second ones, in entry order.
 #[tactic(auto, using(crate::specs::EntryLaws::comes_before_by))]
 pub fn is_before(key: &[u8], number: u64, later: &[u8], lower: u64) -> bool
     ensures { result ≡ comes_before key.now number later.now lower }

@@ -7,7 +7,8 @@ use std::fmt;
 
 /// A choice of all sizes and counts of a store. It prints as `normal` or `small`.
 ///
-/// `Normal` is for use; `Small` fills up after a few operations, so that every part of the store is soon at work.
+/// `Normal` is for use; `Small` fills up after a few operations, so that
+/// every part of the store is soon at work.
 #[derive(Clone, Copy, Debug, PartialEq, Eq)]
 pub enum Profile {
     Normal,

@@ -14,7 +14,8 @@ pub trait TableLike: HasRow + Sized {
     /// A value with the same row and entries.
     fn share(&self) -> Result<Self, Memory>
         ensures row { IfOk result (λ table. Self.the_row table ≡ Self.the_row self.now) }
-        ensures entries { IfOk result (λ table. (es : List Entry) → Self.holds table es ↔ Self.holds self.now es) };
+        ensures entries { IfOk result
+            (λ table. (es : List Entry) → Self.holds table es ↔ Self.holds self.now es) };
 }
 
 impl<X: HasRow> TableLike for Arc<X, Global> {
