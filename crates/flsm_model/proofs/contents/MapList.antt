@@ -29,10 +29,10 @@ use Rattle.flsm_model.proofs.contents.Shown.{above_low}
 use Rattle.flsm_model.proofs.contents.Base.{deep}
 use Rattle.flsm_model.proofs.contents.MapBase.{map_holds}
 use Rattle.flsm_model.proofs.histories.Truth.{All, all_run, all_base}
-use Rattle.flsm_model.proofs.lists.Lists.{in_filter, in_append, in_flat, in_left, in_right, in_kept}
+use Rattle.flsm_model.proofs.lists.Lists.{in_filter, in_append, in_flat, in_left, in_right, in_kept, each_before-filter}
 use Rattle.flsm_model.proofs.lists.MapLists.{no_value, maps_same, apply_sorted, latest, lookup_applied}
 use Rattle.flsm_model.specs.Contents.{put_value}
-use Rattle.flsm_model.proofs.lists.Newest.{first_at, firsts_first, KeysRise, KeysRise, firsts_rise, rise_sorted, lookup_puts, Found, Rising, Rising, found_last, falling_in_order, found_first, rising_entries, rising_filter, same_number, Nowhere, At}
+use Rattle.flsm_model.proofs.lists.Newest.{first_at, firsts_first, KeysRise, firsts_rise, rise_sorted, lookup_puts, Found, Rising, found_last, falling_in_order, found_first, rising_entries, same_number, Nowhere, At}
 
 -- ---- the join
 
@@ -98,7 +98,7 @@ joined bs es m ordered sub same = maps_same (shown es m) (map_at bs m) (rise_sor
 
     equal : (k : Bytes) → first_at k low ≡ latest k high None
     equal k = both k (first_at k low) (latest k high None) (found_first k low (falling_in_order (filter (λ (e : Entry). nat_le e.number m) es)))
-        (found_last k high (rising_filter _ (entries_of bs) rising))
+        (found_last k high (each_before-filter _ _ (entries_of bs) rising))
 
 -- ---- live entries are entries of the batches
 

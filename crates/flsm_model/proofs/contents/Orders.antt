@@ -1,6 +1,6 @@
 -- The order over whole histories.
-use Rattle.std.proofs.Common.{◌≡◌, ℕ, Bool, true, false, ◌&&◌, List, [], ◌∷◌, refl, ◌∙◌, arith}
-use Rattle.std.specs.Prelude.{◌==◌, ⊤}
+use Rattle.std.proofs.Common.{◌≡◌, ℕ, Bool, true, false, ◌&&◌, List, refl, ◌∙◌, arith}
+use Rattle.std.specs.Prelude.{◌==◌}
 use Rattle.std.specs.List.{list_any}
 use Rattle.std.proofs.lemmas.Bool.Decides.{nat_tests}
 use Rattle.flsm_model.specs.Ranges.{is_below}
@@ -22,12 +22,11 @@ use Rattle.flsm_model.proofs.guards.InGuards.{InGuards}
 use Rattle.flsm_model.proofs.contents.Falls.{Falls, AllFlushed, InFlight, IsFor}
 use Rattle.flsm_model.proofs.contents.Begin.{Spans, Known}
 use Rattle.flsm_model.proofs.contents.Sorts.{AllSorted}
-use Rattle.flsm_model.proofs.lists.Lists.{any_none, none_any}
+use Rattle.flsm_model.proofs.lists.Lists.{any_none, none_any, EachBefore}
 
 -- no two of the jobs conflict, whichever is asked first
 abbrev pub AllApart : List Running → Type 0
-AllApart [] = ⊤
-AllApart (r ∷ rs) = ((s : Running) → IsIn s rs → (jobs_conflict r.1 s.1 ≡ false) × (jobs_conflict s.1 r.1 ≡ false)) × AllApart rs
+AllApart rs = EachBefore (λ r s. (jobs_conflict r.1 s.1 ≡ false) × (jobs_conflict s.1 r.1 ≡ false)) rs
 
 -- what a tree keeps
 pub record Sound (o : Column) (t : Tree) : Type 0 where

@@ -1,6 +1,6 @@
 -- The contents of tables are in order, so that rows span them; and numbers stay known.
 use Rattle.std.proofs.Common.{◌≡◌, ℕ, suc, Bool, true, false, cond, ◌&&◌, not, List, [], ◌∷◌, inl, inr, refl, sym, ap, subst}
-use Rattle.std.specs.Prelude.{nat_lt, ◌==◌, filter, flat_map, ⊤}
+use Rattle.std.specs.Prelude.{nat_lt, ◌==◌, filter, flat_map}
 use Rattle.std.specs.List.{AllZip}
 use Rattle.std.specs.Cmp.Lexicographic.{bytes_decides}
 use Rattle.std.proofs.lemmas.Bool.{and_parts, or_parts, or_cases}
@@ -20,11 +20,10 @@ use Rattle.flsm_model.specs.Shape.{guards_at, outputs_of}
 use Rattle.flsm_model.proofs.lists.Members.{IsIn, in_put, in_paired}
 use Rattle.flsm_model.proofs.contents.Falls.{after}
 use Rattle.flsm_model.proofs.contents.Begin.{Spans}
-use Rattle.flsm_model.proofs.lists.Lists.{in_filter, in_append, in_flat}
+use Rattle.flsm_model.proofs.lists.Lists.{in_append, in_flat, EachBefore, each_before-filter}
 
 abbrev pub Sorted : List Entry → Type 0
-Sorted [] = ⊤
-Sorted (e ∷ es) = ((f : Entry) → IsIn f es → key_le e.key f.key ≡ true) × Sorted es
+Sorted es = EachBefore (λ e f. key_le e.key f.key ≡ true) es
 
 entry_le : (e f : Entry) → entry_lt e f ≡ true → key_le e.key f.key ≡ true
 entry_le e f h = elim (or_cases (key_lt e.key f.key) (key_eq e.key f.key && nat_lt f.number e.number) h) [
@@ -49,14 +48,6 @@ sorted_put e (f ∷ fs) h = by (entry_lt e f) refl (sorted_put e fs h.1)
 pub sorted_in_order : (es : List Entry) → Sorted (in_order es)
 sorted_in_order [] = tt
 sorted_in_order (e ∷ es) = sorted_put e (in_order es) (sorted_in_order es)
-
-pub sorted_filter : (p : Entry → Bool) (es : List Entry) → Sorted es → Sorted (filter p es)
-sorted_filter p [] h = tt
-sorted_filter p (e ∷ es) h = by (p e) (sorted_filter p es h.1)
-  where
-    by : (b : Bool) → Sorted (filter p es) → Sorted (cond b (e ∷ filter p es) (filter p es))
-    by true r = ((λ f i. h.0 f (in_filter p f es i).0), r)
-    by false r = r
 
 -- what holds of entries in order, and then of some of them, holds of the contents of all tables
 
@@ -104,10 +95,10 @@ pub record AllSorted (ts : List Table) : Type 0 where
   pub sorted : (t : Table) → IsIn t ts → Sorted t.entries
 
 pub sorted_contents : (o : Column) (bs : Batches) (t : Tree) (e : Edit) (c : List Entry) → AllSorted t.tables → IsIn c (contents o bs t e) → Sorted c
-sorted_contents o bs t e c h i = of_contents Sorted tt sorted_in_order sorted_filter o bs t e c h.sorted i
+sorted_contents o bs t e c h i = of_contents Sorted tt sorted_in_order (each_before-filter _) o bs t e c h.sorted i
 
 pub sorted_step : (o : Column) (bs : Batches) (t : Tree) (e : Edit) → AllSorted t.tables → AllSorted (tree_after o bs t e).tables
-sorted_step o bs t e h = record { sorted = of_step Sorted tt sorted_in_order sorted_filter o bs t e h.sorted }
+sorted_step o bs t e h = record { sorted = of_step Sorted tt sorted_in_order (each_before-filter _) o bs t e h.sorted }
 
 -- the ends of a sorted list
 pub first_least : (es : List Entry) (y : Entry) → Sorted es → IsIn y es → key_le (first_key es) y.key ≡ true

@@ -1,5 +1,5 @@
 -- Live tables hold entries in their strict order; what entries show at a key.
-use Rattle.std.proofs.Common.{◌≡◌, ℕ, ◌<◌, ◌≤◌, Bool, true, false, cond, not, List, [], ◌∷◌, inl, inr, refl, sym, ◌∙◌, ap, subst, arith}
+use Rattle.std.proofs.Common.{◌≡◌, ℕ, ◌<◌, ◌≤◌, true, not, List, [], ◌∷◌, inl, inr, refl, sym, ◌∙◌, ap, subst, arith}
 use Rattle.std.specs.Prelude.{◌==◌, nat_le, filter, None}
 use Rattle.std.proofs.lemmas.Bool.{and_from, or_left, or_right, cases_Bool, eq-eqb, leb-true, le-leb, lt-ltb, cases_lt}
 use Rattle.peb_base.specs.Keys.{Bytes, key_lt, key_eq}
@@ -30,24 +30,16 @@ use Rattle.flsm_model.proofs.contents.Places.{one_place}
 use Rattle.flsm_model.proofs.contents.Sorts.{Sorted, sorted_in_order, of_step, described}
 use Rattle.flsm_model.proofs.histories.Truth.{All, all_run, all_base}
 use Rattle.flsm_model.proofs.guards.NewRows.{le_ne_lt}
-use Rattle.flsm_model.proofs.lists.Lists.{in_filter, in_kept}
+use Rattle.flsm_model.proofs.lists.Lists.{in_filter, in_kept, each_before-filter}
 
 -- ---- numbers fall along each key
-
-falling_filter : (p : Entry → Bool) (es : List Entry) → Falling es → Falling (filter p es)
-falling_filter p [] h = tt
-falling_filter p (e ∷ es) h = by (p e) (falling_filter p es h.1)
-  where
-    by : (b : Bool) → Falling (filter p es) → Falling (cond b (e ∷ filter p es) (filter p es))
-    by true r = ((λ f i. h.0 f (in_filter p f es i).0), r)
-    by false r = r
 
 abbrev AllFall : List Table → Type 0
 AllFall ts = (t : Table) → IsIn t ts → Falling t.entries
 
 fall_from : (o : Column) (bs : Batches) (t : Tree) (r : Record) → AllFall t.tables → AllFall (tree_from o bs t r).tables
 fall_from o bs t [] h = h
-fall_from o bs t (e ∷ es) h = fall_from o bs (tree_after o bs t e) es (of_step Falling tt falling_in_order falling_filter o bs t e h)
+fall_from o bs t (e ∷ es) h = fall_from o bs (tree_after o bs t e) es (of_step Falling tt falling_in_order (each_before-filter _) o bs t e h)
 
 -- ---- rows tell of their tables
 

@@ -26,8 +26,8 @@ use Rattle.peb_base.specs.Members.{IsIn}
 use Rattle.flsm_model.proofs.lists.Members.{in_pieces, in_some_entries}
 use Rattle.flsm_model.proofs.guards.Guards.{AscendFrom, same_range}
 use Rattle.flsm_model.proofs.guards.InGuards.{start_in}
-use Rattle.flsm_model.proofs.contents.Sorts.{Sorted, first_least, sorted_filter}
-use Rattle.flsm_model.proofs.lists.Lists.{in_filter, in_append, all_of, any_in, in_kept}
+use Rattle.flsm_model.proofs.contents.Sorts.{Sorted, first_least}
+use Rattle.flsm_model.proofs.lists.Lists.{in_filter, in_append, all_of, any_in, in_kept, EachBefore, each_before-filter}
 
 -- ---- keys and numbers of a content
 
@@ -187,13 +187,13 @@ pieces_apart o lo [] (e ∷ es) (r ∷ []) a so low d =
 pieces_apart o lo (g ∷ gs) es rs a so low d =
     let p = split_zip o rs (some_entries (before_key g es)) (pieces (from_key g es) gs) d in
     let from_in : (x : Entry) → IsIn x (from_key g es) → key_le g x.key ≡ true = λ x i. (in_filter (λ (e : Entry). not (key_lt e.key g)) x es i).1 in
-    let rest : ApartFrom g gs p.1 = pieces_apart o g gs (from_key g es) p.1 a.1 (sorted_filter _ es so) from_in p.4 in
+    let rest : ApartFrom g gs p.1 = pieces_apart o g gs (from_key g es) p.1 a.1 (each_before-filter _ _ es so) from_in p.4 in
     let up : (r : TableRow) → IsIn r p.1 → key_lt r.smallest g ≡ false = λ r i.
     let c = zip_of o r p.1 (pieces (from_key g es) gs) p.4 i in
     let l = first_entry c.0 c.2.tells.some in
     not-true _ (subst (λ k. key_le g k ≡ true) (l.2 ∙ sym c.2.tells.smallest) (from_in l.0 (in_pieces l.0 c.0 (from_key g es) gs c.1 l.1))) in
     subst (ApartFrom lo (g ∷ gs)) (sym p.2)
-    (below_first o lo g gs p.0 p.1 (before_key g es) (sorted_filter _ es so)
+    (below_first o lo g gs p.0 p.1 (before_key g es) (each_before-filter _ _ es so)
     (λ x i. let q = in_filter (λ (e : Entry). key_lt e.key g) x es i in (low x q.0, q.1)) up p.3 (apart_next lo g gs p.1 up rest))
 
 pub apart_ascends : (lo : Bytes) (gs : List Bytes) (rs : List TableRow) → ((r : TableRow) → IsIn r rs → key_le r.smallest r.largest ≡ true) → ApartFrom lo gs rs → rows_ascend rs ≡ true
@@ -253,16 +253,7 @@ le_ne_lt a b l n = by (slice_cmp nat_cmp a b) refl
         absurd (true≢false (sym (ap is_lt ba) ∙ not-true _ l))
 
 abbrev pub Strict : List Bytes → Type 0
-Strict [] = ⊤
-Strict (k ∷ ks) = ((x : Bytes) → IsIn x ks → key_lt k x ≡ true) × Strict ks
-
-strict_filter : (p : Bytes → Bool) (ks : List Bytes) → Strict ks → Strict (filter p ks)
-strict_filter p [] h = tt
-strict_filter p (k ∷ ks) h = by (p k) (strict_filter p ks h.1)
-  where
-    by : (b : Bool) → Strict (filter p ks) → Strict (cond b (k ∷ filter p ks) (filter p ks))
-    by true r = ((λ x i. h.0 x (in_filter p x ks i).0), r)
-    by false r = r
+Strict ks = EachBefore (λ k x. key_lt k x ≡ true) ks
 
 put_from : (k : Bytes) (es : List Entry) → IsIn k (put_keys es) → (f : Entry) × IsIn f es × (f.key ≡ k)
 put_from k [] i = absurd i
@@ -330,7 +321,7 @@ pub choices_fit : (o : Column) (s : Shape) (es : List Entry) → Sorted es → a
 choices_fit o s es so =
     let free : Bytes → Bool = λ k. not (is_chosen s.chosen k) in
     let ks : List Bytes = filter free (put_keys es) in
-    and_from _ _ (chosen_ascend _ (strict_choices o ks (strict_filter free (put_keys es) (puts_strict es so))))
+    and_from _ _ (chosen_ascend _ (strict_choices o ks (each_before-filter _ free (put_keys es) (puts_strict es so))))
     (all_of (λ (c : Chosen). not (is_chosen s.chosen c.key) && is_level (level_of o c.key) c.level) (choices o ks) (λ c i.
     let p = choice_of o c ks i in
     and_from _ _ (in_filter free c.key (put_keys es) p.0).1 (rw p.1 (eq-eqb c.level c.level refl))))

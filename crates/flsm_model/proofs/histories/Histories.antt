@@ -28,7 +28,7 @@ use Rattle.flsm_model.proofs.contents.Beside.{beside_step, fresh_less, new_is_fr
 use Rattle.flsm_model.proofs.contents.Begin.{Known, begins}
 use Rattle.flsm_model.proofs.contents.Sorts.{sorted_step, spans_step}
 use Rattle.flsm_model.proofs.contents.Orders.{AllApart, Sound, AllInFlight, for_job, never_open, jobs_swap}
-use Rattle.flsm_model.proofs.lists.Lists.{in_filter, in_append}
+use Rattle.flsm_model.proofs.lists.Lists.{in_filter, in_append, each_before-filter}
 
 -- ---- the tree after an outcome
 
@@ -129,16 +129,8 @@ apart_pair (q ∷ rs) r s h i k ne = elim i [
   ]
 ]
 
-pub apart_filter : (p : Running → Bool) (rs : List Running) → AllApart rs → AllApart (filter p rs)
-apart_filter p [] h = tt
-apart_filter p (r ∷ rs) h = by (p r) (apart_filter p rs h.1)
-  where
-    by : (b : Bool) → AllApart (filter p rs) → AllApart (cond b (r ∷ filter p rs) (filter p rs))
-    by true x = ((λ s i. h.0 s (in_filter p s rs i).0), x)
-    by false x = x
-
 fewer : (o : Column) (t : Tree) (p : Running → Bool) (rs : List Running) → AllInFlight o t rs → AllInFlight o t (filter p rs)
-fewer o t p rs h = record { each = λ r i. h.each r (in_filter p r rs i).0; apart = apart_filter p rs h.apart }
+fewer o t p rs h = record { each = λ r i. h.each r (in_filter p r rs i).0; apart = each_before-filter _ p rs h.apart }
 
 pub job_in : (rs : List Running) (actor : ℕ) (P : Job → Type 0) → IsSomeAnd (job_of rs actor) P → (j : Job) × IsIn (actor, j) rs × P j
 job_in [] actor P h = absurd h
@@ -161,7 +153,7 @@ ended o w n rs actor j e out s here h =
           beside_step o w.batches w.tree j r.1 e out.formed.fit s.rows s.flushed (h.each (actor, j) here) (for_job n j e out.formed.same)
           (apart_pair rs (actor, j) r h.apart here p.0 (λ x. ne (sym x)))
           (λ x y same. never_open n j x y (subst (λ z. IsEditOf j.kind n j z) same out.formed.same)) (h.each r p.0);
-      apart = apart_filter _ rs h.apart;
+      apart = each_before-filter _ _ rs h.apart;
     }
 
 -- ---- a whole session

@@ -14,9 +14,9 @@ use Rattle.flsm_model.specs.Legal.{Allowed, AllowedIn}
 use Rattle.flsm_model.specs.Steps.{without_job, step}
 use Rattle.peb_base.specs.Members.{IsIn}
 use Rattle.flsm_model.proofs.contents.Orders.{AllApart}
-use Rattle.flsm_model.proofs.histories.Histories.{job_in, apart_pair, apart_filter, free_each, within}
+use Rattle.flsm_model.proofs.histories.Histories.{job_in, apart_pair, free_each, within}
 use Rattle.flsm_model.proofs.histories.Sessions.{Numbers, NumbersHold, InNumbers, NumbersApart, blocks_apart}
-use Rattle.flsm_model.proofs.lists.Lists.{in_filter}
+use Rattle.flsm_model.proofs.lists.Lists.{in_filter, each_before-filter}
 
 abbrev pub EachJob : (Tree → Job → Type 0) → Tree → List Running → Type 0
 EachJob J t rs = (r : Running) → IsIn r rs → J t r.1
@@ -66,8 +66,8 @@ apart_step o w (Release actor m) h a = apart_map w.session _ (λ n e x. x) h
 apart_step o w (Freeze m) h a = apart_map w.session _ (λ n e x. x) h
 apart_step o w (Begin actor job) h a =
     apart_map w.session _ (λ n e x. let l : IsLawful o w n job = (within o w (Begin actor job) n e a).2 in ((free_each o job n.running l.free, x.0), x.1)) h
-apart_step o w (Done actor e) h a = apart_map w.session _ (λ n s x. (apart_filter _ n.running x.0, x.1)) h
-apart_step o w (Short actor cause bytes) h a = apart_map w.session _ (λ n s x. (apart_filter _ n.running x.0, x.1)) h
+apart_step o w (Done actor e) h a = apart_map w.session _ (λ n s x. (each_before-filter _ _ n.running x.0, x.1)) h
+apart_step o w (Short actor cause bytes) h a = apart_map w.session _ (λ n s x. (each_before-filter _ _ n.running x.0, x.1)) h
 apart_step o w JournalFault h a = apart_map w.session _ (λ n e x. (x.0, x.0)) h
 apart_step o w (Stop m e) h a = tt
 

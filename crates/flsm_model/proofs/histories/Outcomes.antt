@@ -32,7 +32,7 @@ use Rattle.flsm_model.proofs.lists.Members.{in_sorted, in_pieces, in_some_entrie
 use Rattle.flsm_model.proofs.guards.Guards.{AscendFrom, same_range, least, ranges_kept}
 use Rattle.flsm_model.proofs.guards.InGuards.{start_in}
 use Rattle.flsm_model.proofs.contents.Falls.{InFlight}
-use Rattle.flsm_model.proofs.contents.Sorts.{Sorted, sorted_contents, sorted_filter, sorted_in_order}
+use Rattle.flsm_model.proofs.contents.Sorts.{Sorted, sorted_contents, sorted_in_order}
 use Rattle.flsm_model.proofs.histories.Histories.{JobsHold, JobsIn}
 use Rattle.flsm_model.proofs.contents.Places.{Within}
 use Rattle.flsm_model.proofs.histories.Truth.{All}
@@ -42,7 +42,7 @@ use Rattle.flsm_model.proofs.histories.Jobs.{EachJob, FaultJobs, InEach}
 use Rattle.flsm_model.proofs.histories.Undisturb.{EditIs, IsFlushOf, IsMoveOf, IsCutOf, IsMergeOf, edit_is}
 use Rattle.flsm_model.proofs.guards.NewRows.{RowOf, row_of, rows_new, lies_between, first_range, some_rows, apart_lie, zip_of, pieces_apart, apart_ascends, pieces_clear, choices_fit, some_number, greatest_at_most}
 use Rattle.flsm_model.proofs.histories.Whole.{Formed, Calm, formed_always, stands_always}
-use Rattle.flsm_model.proofs.lists.Lists.{in_filter, in_flat, all_in, each_in, split_all, all_of}
+use Rattle.flsm_model.proofs.lists.Lists.{in_filter, in_flat, all_in, each_in, split_all, all_of, each_before-filter}
 use Rattle.flsm_model.proofs.histories.Starts.{cut_key, first_in}
 
 -- what is told is never changed
@@ -251,7 +251,7 @@ module _ (o : Column) (w : Standing) (n : Session) (j : Job) (fm : Formed o w) (
     told_move floor outputs m =
         let e : Edit = Move j.level floor j.inputs outputs in
         let es : List Entry = kept (merged w.tree.tables j.inputs) floor false in
-        let so : Sorted es = sorted_filter _ (merged w.tree.tables j.inputs) (sorted_in_order (flat_map (content_of w.tree.tables) j.inputs)) in
+        let so : Sorted es = each_before-filter _ _ (merged w.tree.tables j.inputs) (sorted_in_order (flat_map (content_of w.tree.tables) j.inputs)) in
         let ap2 = pieces_apart o [] (guards_at w.tree.shape (suc j.level)) es outputs (ascends (suc j.level)) so (λ x i. least x.key) (m.holds tells) in
         let order : (r : TableRow) → IsIn r outputs → key_le r.smallest r.largest ≡ true = λ r i. (row_of_made e m r i).2.order in
         record {

@@ -90,6 +90,20 @@ each-filter {X} P p (x ∷ xs) h = by (p x) (each-filter P p xs h.1)
     by true r = (h.0, r)
     by false r = r
 
+-- R holds of each element and every one behind it
+abbrev pub EachBefore : {X : Type 0} → (X → X → Type 0) → List X → Type 0
+EachBefore R [] = ⊤
+EachBefore {X} R (x ∷ xs) = ((y : X) → IsIn y xs → R x y) × EachBefore R xs
+
+pub each_before-filter : {X : Type 0} (R : X → X → Type 0) (p : X → Bool) (xs : List X) → EachBefore R xs
+    → EachBefore R (filter p xs)
+each_before-filter R p [] h = tt
+each_before-filter {X} R p (x ∷ xs) h = by (p x) (each_before-filter R p xs h.1)
+  where
+    by : (b : Bool) → EachBefore R (filter p xs) → EachBefore R (cond b (x ∷ filter p xs) (filter p xs))
+    by true r = ((λ y i. h.0 y (in_filter p y xs i).0), r)
+    by false r = r
+
 pub each-append : {X : Type 0} (P : X → Type 0) (xs ys : List X) → Each P xs → Each P ys → Each P (xs ++ ys)
 each-append P [] ys h g = g
 each-append P (x ∷ xs) ys h g = (h.0, each-append P xs ys h.1 g)

@@ -1,6 +1,6 @@
 -- Maps as lists by ascending key: those that give the same at each key are the same.
 use Rattle.std.proofs.Common.{◌≡◌, Bool, true, false, cond, not, List, [], ◌∷◌, ◌⊎◌, inl, inr, refl, sym, ◌∙◌, ap, subst}
-use Rattle.std.specs.Prelude.{filter, Option, Some, None, ⊤}
+use Rattle.std.specs.Prelude.{Option, Some, None}
 use Rattle.std.specs.Cmp.Lexicographic.{bytes_decides}
 use Rattle.std.proofs.lemmas.Bool.{cases_Bool, true≢false, not-true}
 use Rattle.peb_base.specs.Keys.{Bytes, key_lt, key_eq}
@@ -13,7 +13,7 @@ use Rattle.peb_base.specs.declared.change.Change.TheVariants.{Put, Delete}
 use Rattle.peb_base.specs.declared.entry.Entry.{Entry}
 use Rattle.peb_base.specs.Members.{IsIn}
 use Rattle.flsm_model.proofs.guards.NewRows.{le_ne_lt}
-use Rattle.flsm_model.proofs.lists.Lists.{in_filter}
+use Rattle.flsm_model.proofs.lists.Lists.{EachBefore, each_before-filter}
 use Rattle.flsm_model.specs.Contents.{put_value}
 
 -- the value of a put
@@ -28,8 +28,7 @@ lt_self k h = true≢false (sym h ∙ not-true _ (le_refl k))
 
 -- the keys ascend
 abbrev pub MapSorted : Map → Type 0
-MapSorted [] = ⊤
-MapSorted (p ∷ ps) = ((q : Bytes × Bytes) → IsIn q ps → key_lt p.0 q.0 ≡ true) × MapSorted ps
+MapSorted m = EachBefore (λ p q. key_lt p.0 q.0 ≡ true) m
 
 -- a key below all others isn't there
 pub lookup_below : (k : Bytes) (ps : Map) → ((q : Bytes × Bytes) → IsIn q ps → key_lt k q.0 ≡ true) → lookup k ps ≡ None
@@ -101,17 +100,9 @@ set_sorted k v (p ∷ ps) h = by (key_lt k p.0) (key_eq k p.0) refl refl (set_so
         let more : key_lt p.0 k ≡ true = le_ne_lt p.0 k (ap not x) (other_key p.0 k (λ z. true≢false (sym ((bytes_decides k p.0).1 (sym z)) ∙ y))) in
         ((λ q i. elim (in_set k v ps q i) [ inl s ↦ subst (λ (z : Bytes × Bytes). key_lt p.0 z.0 ≡ true) (sym s) more | inr m ↦ h.0 q m ]), r)
 
-pub filter_sorted : (f : Bytes × Bytes → Bool) (m : Map) → MapSorted m → MapSorted (filter f m)
-filter_sorted f [] h = tt
-filter_sorted f (p ∷ ps) h = by (f p) (filter_sorted f ps h.1)
-  where
-    by : (b : Bool) → MapSorted (filter f ps) → MapSorted (cond b (p ∷ filter f ps) (filter f ps))
-    by true r = ((λ q i. h.0 q (in_filter f q ps i).0), r)
-    by false r = r
-
 pub change_sorted : (k : Bytes) (c : Change) (m : Map) → MapSorted m → MapSorted (apply_change k c m)
 change_sorted k (Put v) m h = set_sorted k v m h
-change_sorted k Delete m h = filter_sorted _ m h
+change_sorted k Delete m h = each_before-filter _ _ m h
 
 pub apply_sorted : (es : List Entry) (m : Map) → MapSorted m → MapSorted (apply_entries es m)
 apply_sorted [] m h = h

@@ -1,6 +1,6 @@
 -- The first and the last entry of a key in a list.
 use Rattle.std.proofs.Common.{◌≡◌, ℕ, suc, ◌+◌, ◌-◌, ◌<◌, ◌≤◌, Bool, true, false, cond, ◌&&◌, not, List, [], ◌∷◌, ◌++◌, length, inl, inr, refl, sym, ◌∙◌, ap, subst, arith}
-use Rattle.std.specs.Prelude.{nat_lt, filter, flat_map, Option, Some, None, ⊤}
+use Rattle.std.specs.Prelude.{nat_lt, filter, flat_map, Option, Some, None}
 use Rattle.std.specs.Cmp.Lexicographic.{bytes_decides}
 use Rattle.std.proofs.lemmas.Bool.{and_parts, and_from, or_cases, or_parts, cases_Bool, cases_lt, ltb-true, lt-ltb, true≢false, not-true}
 use Rattle.peb_base.specs.Keys.{Bytes, key_lt, key_le, key_eq}
@@ -18,8 +18,8 @@ use Rattle.flsm_model.proofs.lists.Members.{in_put}
 use Rattle.flsm_model.proofs.contents.Sorts.{Sorted, sorted_in_order}
 use Rattle.flsm_model.proofs.contents.Shown.{in_numbered, above_low}
 use Rattle.flsm_model.proofs.guards.NewRows.{le_ne_lt}
-use Rattle.flsm_model.proofs.lists.Lists.{in_filter, in_append, in_flat}
-use Rattle.flsm_model.proofs.lists.MapLists.{lt_self, MapSorted, MapSorted, lookup_below, latest}
+use Rattle.flsm_model.proofs.lists.Lists.{in_filter, in_append, in_flat, EachBefore, each_before-filter}
+use Rattle.flsm_model.proofs.lists.MapLists.{lt_self, MapSorted, lookup_below, latest}
 use Rattle.flsm_model.specs.Contents.{put_value}
 
 -- ---- the first entry of each key
@@ -53,16 +53,7 @@ in_firsts f (e ∷ es) i = elim i [ inl s ↦ inl s | inr r ↦ inr (in_firsts f
 
 -- keys ascend strictly
 abbrev pub KeysRise : List Entry → Type 0
-KeysRise [] = ⊤
-KeysRise (e ∷ es) = ((f : Entry) → IsIn f es → key_lt e.key f.key ≡ true) × KeysRise es
-
-pub rise_filter : (p : Entry → Bool) (es : List Entry) → KeysRise es → KeysRise (filter p es)
-rise_filter p [] h = tt
-rise_filter p (e ∷ es) h = by (p e) (rise_filter p es h.1)
-  where
-    by : (b : Bool) → KeysRise (filter p es) → KeysRise (cond b (e ∷ filter p es) (filter p es))
-    by true r = ((λ f i. h.0 f (in_filter p f es i).0), r)
-    by false r = r
+KeysRise es = EachBefore (λ e f. key_lt e.key f.key ≡ true) es
 
 pub firsts_rise : (es : List Entry) → Sorted es → KeysRise (firsts es)
 firsts_rise [] h = tt
@@ -70,7 +61,7 @@ firsts_rise (e ∷ es) h = (
   (λ f i.
       let p = in_filter (λ (g : Entry). not (key_eq g.key e.key)) f (firsts es) i in
       le_ne_lt e.key f.key (h.0 f (in_firsts f es p.0)) (other_key e.key f.key (λ z. true≢false (sym ((bytes_decides f.key e.key).1 (sym z)) ∙ not-true _ p.1)))),
-  rise_filter _ (firsts es) (firsts_rise es h.1),
+  each_before-filter _ _ (firsts es) (firsts_rise es h.1),
 )
 
 pub puts_in : (q : Bytes × Bytes) (es : List Entry) → IsIn q (flat_map (λ (e : Entry). put_of e.key e.change) es) → (e : Entry) × IsIn e es × (q.0 ≡ e.key)
@@ -115,8 +106,7 @@ pub data Found (es : List Entry) (k : Bytes) (r : Option Bytes) : Type 0 where
 
 -- numbers ascend
 abbrev pub Rising : List Entry → Type 0
-Rising [] = ⊤
-Rising (e ∷ es) = ((f : Entry) → IsIn f es → e.number < f.number) × Rising es
+Rising es = EachBefore (λ e f. e.number < f.number) es
 
 -- none there, or the last
 pub data Last (es : List Entry) (k : Bytes) (d r : Option Bytes) : Type 0 where
@@ -147,8 +137,7 @@ found_last k es h = by (last_found k es None h)
 
 -- numbers fall along each key
 abbrev pub Falling : List Entry → Type 0
-Falling [] = ⊤
-Falling (e ∷ es) = ((f : Entry) → IsIn f es → f.key ≡ e.key → f.number ≤ e.number) × Falling es
+Falling es = EachBefore (λ e f. f.key ≡ e.key → f.number ≤ e.number) es
 
 pub falling_put : (e : Entry) (es : List Entry) → Sorted es → Falling es → Falling (put_in e es)
 falling_put e [] s h = ((λ f i. absurd i), tt)
@@ -218,14 +207,6 @@ rising_entries low (b ∷ bs) h =
     let p3 : ordered_above (b.0 + length b.1 - 1) bs ≡ true = (and_parts _ _ h).1 in
     rising_append (numbered b.0 b.1) (entries_of bs) (rising_numbered b.0 b.1) (rising_entries (b.0 + length b.1 - 1) bs p3)
     (λ x y i k. omega (arith, (in_numbered x b.0 b.1 i).1, above_low (b.0 + length b.1 - 1) bs y p3 k))
-
-pub rising_filter : (p : Entry → Bool) (es : List Entry) → Rising es → Rising (filter p es)
-rising_filter p [] h = tt
-rising_filter p (e ∷ es) h = by (p e) (rising_filter p es h.1)
-  where
-    by : (b : Bool) → Rising (filter p es) → Rising (cond b (e ∷ filter p es) (filter p es))
-    by true r = ((λ f i. h.0 f (in_filter p f es i).0), r)
-    by false r = r
 
 pub same_number : (es : List Entry) (x y : Entry) → Rising es → IsIn x es → IsIn y es → x.number ≡ y.number → x ≡ y
 same_number [] x y h i k s = absurd i
