@@ -14,4 +14,5 @@ pub mod Passing
 pub mod Splitting
 pub mod Joining
 pub mod Closing
+pub mod Turns
 pub mod TestLemmas

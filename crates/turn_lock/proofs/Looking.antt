@@ -22,7 +22,7 @@ use Rattle.turn_lock.proofs.Views.{ticket_count_set, ticket_count_below, place_c
 use Rattle.turn_lock.proofs.Standing.{Begun, still, settled, knows_further}
 
 -- a ticket that is served, by its number modulo 2 ^ 64
-served_is : (s t d n : ℕ) → s ≤ t → t < d → d ≡ s + n → n < 2 ^ 64 → s % 2 ^ 64 ≡ t % 2 ^ 64 → t ≡ s
+pub served_is : (s t d n : ℕ) → s ≤ t → t < d → d ≡ s + n → n < 2 ^ 64 → s % 2 ^ 64 ≡ t % 2 ^ 64 → t ≡ s
 served_is s t d n a b c e f = omega arith
 
 module _ {V E : Type 0} (stands : V → List E → Type 0) (actor : E → Option ℕ) where
@@ -30,7 +30,7 @@ module _ {V E : Type 0} (stands : V → List E → Type 0) (actor : E → Option
   Rule = KeepsRule stands actor
 
   -- the value is at home while the seat whose ticket is served waits
-  home_at : (a : Account E) (s : State (Option V) (Known E)) (q : AccountsFor stands actor a s) (id t : ℕ) (v : Known E) → get_elem? s.views id ≡ some v → v.stage ≡ Waiting t → t ≡ a.queue.served → IsAtHome stands actor a s.homes s.views
+  pub home_at : (a : Account E) (s : State (Option V) (Known E)) (q : AccountsFor stands actor a s) (id t : ℕ) (v : Known E) → get_elem? s.views id ≡ some v → v.stage ≡ Waiting t → t ≡ a.queue.served → IsAtHome stands actor a s.homes s.views
   home_at a s q id t v at is served = let h : HasTicket a.queue id (Waiting t) = subst (HasTicket a.queue id) is (q.each id v at).ticket in ⊎_elim
       (λ (home : IsAtHome stands actor a s.homes s.views). home)
       (λ (away : IsAway stands actor a s.homes s.views). let u = away.1 in let o : Known E = u.1.0 in let mine : a.queue.taker a.queue.served ≡ id = ap a.queue.taker (sym served) ∙ h.2 in

@@ -7,6 +7,7 @@
 
 mod counted;
 mod known;
+mod laws;
 mod lock;
 mod named;
 mod rule;
@@ -18,6 +19,7 @@ mod tests;
 
 pub use counted::Counted;
 pub use known::Known;
+pub use laws::{law_history, law_order, law_value};
 pub use lock::TurnLock;
 pub use seat::Seat;
 pub use stage::Stage;
