@@ -60,6 +60,7 @@ module _ {V E : Type 0} (stands : V → List E → Type 0) (actor : E → Option
                   ticket = f.ticket;
                   seen = ([], ap (λ (z : List E). z ++ e ∷ []) (sym seen) ∙ sym (append-nil (v.seen ++ e ∷ [])));
                   told = front_longer a.history v.told (e ∷ []) f.told;
+                  over = f.over;
                   gone = λ b. absurd (spent_at v.stage (Serving t) is b);
                   knows = λ _. record {
                     from = kn.from;
@@ -76,6 +77,7 @@ module _ {V E : Type 0} (stands : V → List E → Type 0) (actor : E → Option
                   ticket = g.ticket;
                   seen = front_longer a.history d.seen (e ∷ []) g.seen;
                   told = front_longer a.history d.told (e ∷ []) g.told;
+                  over = g.over;
                   gone = g.gone;
                   knows = λ alive. let kd = g.knows alive in record { from = kd.from; mine = λ p has. let m = kd.mine p has in ((old j p d there alive has).1 ∙ m.0, m.1, m.2); ascends = kd.ascends; numbers = kd.numbers; count = kd.count };
                 });

@@ -39,8 +39,8 @@ module _ {V E : Type 0} (stands : V → List E → Type 0) (actor : E → Option
             seats = (length-set s.views id w ∙ q.seats.0, q.seats.1);
             long = q.long;
             each = views_stay (Fits a') s.views id w
-                record { ticket = (omega arith, omega arith, put_here a.queue.taker a.queue.drawn id a.queue.drawn refl); seen = f.seen; told = f.told; gone = λ b. absurd b; knows = λ _. knows_at a.roll id (Waiting a.queue.drawn) v (f.knows (is_live v.stage Idle idle tt)) }
-                (λ j d other there. let g : Fits a j d = q.each j d there in record { ticket = after_draw a.queue id j d.stage g.ticket; seen = g.seen; told = g.told; gone = g.gone; knows = g.knows });
+                record { ticket = (omega arith, omega arith, put_here a.queue.taker a.queue.drawn id a.queue.drawn refl); seen = f.seen; told = f.told; over = f.over; gone = λ b. absurd b; knows = λ _. knows_at a.roll id (Waiting a.queue.drawn) v (f.knows (is_live v.stage Idle idle tt)) }
+                (λ j d other there. let g : Fits a j d = q.each j d there in record { ticket = after_draw a.queue id j d.stage g.ticket; seen = g.seen; told = g.told; over = g.over; gone = g.gone; knows = g.knows });
             longest = seat_stays (λ (u : Known E). u.seen ≡ a.history) s.views id a.top v w at (λ e. e) q.longest;
             given = λ p low high. seat_stays (λ (u : Known E). Contains u.mine p) s.views id (a.roll.giver p) v w at (λ h. h) (q.given p low high);
             carried = q.carried;
@@ -56,5 +56,5 @@ module _ {V E : Type 0} (stands : V → List E → Type 0) (actor : E → Option
                 )) q.value;
           },
         ),
-        (a.queue.drawn, refl, ap (λ (z : List ℕ). get_or z 0 0) q.words),
+        (a.queue.drawn, refl, ap (λ (z : List ℕ). get_or z 0 0) q.words, (let l = f.over in omega arith)),
       )

@@ -69,12 +69,13 @@ module _ {V E : Type 0} (stands : V → List E → Type 0) (actor : E → Option
           counted = let m : place_count vs + length v.mine ≡ place_count s.views + length b.mine = place_count_set s.views id v b at in let n : length b.mine ≡ length v.mine + length w.mine = length-merged v.mine w.mine in let o : place_count us + length w.mine ≡ place_count vs + 0 = place_count_set vs other w spent there' in let c : a.roll.base + place_count s.views ≡ length a.history = q.counted in omega arith;
           seats = (length-set vs other spent ∙ (length-set s.views id b ∙ q.seats.0), q.seats.1);
           long = q.long;
-          each = views_stay (Fits a') vs other spent record { ticket = tt; seen = (a.history, refl); told = (a.history, refl); gone = λ _. (refl, refl); knows = λ x. absurd x }
+          each = views_stay (Fits a') vs other spent record { ticket = tt; seen = (a.history, refl); told = (a.history, refl); over = omega arith; gone = λ _. (refl, refl); knows = λ x. absurd x }
               (λ j d elsewhere e. dite (ℕ_discrete j id)
               (λ z. subst (λ (y : ℕ × Known E). Fits a' y.0 y.1) (λ i. (sym z i, at_once vs id j b d (sym z) (set_here s.views id b inside) e i)) record {
                 ticket = f.ticket;
                 seen = ls.0;
                 told = ls.1;
+                over = let x = f.over in let y = g.over in omega arith;
                 gone = λ x. absurd (spent_at v.stage Idle idle x);
                 knows = λ _. record {
                   from = kv.from;
@@ -94,6 +95,7 @@ module _ {V E : Type 0} (stands : V → List E → Type 0) (actor : E → Option
                 ticket = h.ticket;
                 seen = h.seen;
                 told = h.told;
+                over = h.over;
                 gone = h.gone;
                 knows = λ alive. let kd = h.knows alive in record {
                   from = kd.from;

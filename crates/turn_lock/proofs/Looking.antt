@@ -72,7 +72,7 @@ module _ {V E : Type 0} (stands : V → List E → Type 0) (actor : E → Option
             seats = (length-set s.views id w ∙ q.seats.0, q.seats.1);
             long = q.long;
             each = views_stay (Fits a) s.views id w
-                record { ticket = (served, h.1, h.2); seen = front_whole a.history; told = f.told; gone = λ b. absurd b; knows = λ _. knows_further a.roll id (Serving t) a.history v (length_front a.history v.seen f.seen) (f.knows live) }
+                record { ticket = (served, h.1, h.2); seen = front_whole a.history; told = f.told; over = f.over; gone = λ b. absurd b; knows = λ _. knows_further a.roll id (Serving t) a.history v (length_front a.history v.seen f.seen) (f.knows live) }
                 (λ j d _ there. q.each j d there);
             longest = seat_stays (λ (u : Known E). u.seen ≡ a.history) s.views id a.top v w at (λ _. refl) q.longest;
             given = λ p low high. seat_stays (λ (u : Known E). Contains u.mine p) s.views id (a.roll.giver p) v w at (λ e. e) (q.given p low high);

@@ -81,6 +81,7 @@ module _ {V E : Type 0} (stands : V → List E → Type 0) (actor : E → Option
       ticket = tt;
       seen = front_whole h;
       told = (h, refl);
+      over = omega arith;
       gone = λ b. absurd b;
       knows = λ _. record {
         from = refl;

@@ -40,6 +40,7 @@ module _ {V E : Type 0} (stands : V → List E → Type 0) (actor : E → Option
         ticket = f.ticket;
         seen = f.seen;
         told = f.told;
+        over = f.over;
         gone = f.gone;
         knows = λ _. record { from = kn.from; mine = kn.mine; ascends = kn.ascends; numbers = λ n has. let m = kn.numbers n has in let b = m.1 in (same n m.1 ∙ m.0, omega arith); count = λ _. ap (λ (z : ℕ). z + 1) many };
       }
@@ -47,6 +48,7 @@ module _ {V E : Type 0} (stands : V → List E → Type 0) (actor : E → Option
         ticket = g.ticket;
         seen = g.seen;
         told = g.told;
+        over = g.over;
         gone = g.gone;
         knows = λ alive. let kd = g.knows alive in record {
           from = kd.from;
@@ -69,6 +71,7 @@ module _ {V E : Type 0} (stands : V → List E → Type 0) (actor : E → Option
                 ticket = tt;
                 seen = f.seen;
                 told = (a.history, refl);
+                over = f.over;
                 gone = λ b. absurd b;
                 knows = λ _. record {
                   from = kn.from;

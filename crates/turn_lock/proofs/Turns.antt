@@ -1,5 +1,5 @@
 -- What the rule says of turns at a moment.
-use Rattle.std.proofs.Common.{◌≡◌, ◌≢◌, ℕ, ◌+◌, ◌%◌, ◌^◌, ◌<◌, ◌≤◌, List, [], ◌∷◌, length, get_or, sym, refl, ap, ◌∙◌, subst, ◌⊎◌, inl, inr, ⊎_elim, arith, Option, Some, None}
+use Rattle.std.proofs.Common.{◌≡◌, ◌≢◌, ℕ, ◌%◌, ◌^◌, ◌<◌, ◌≤◌, List, [], ◌∷◌, length, get_or, sym, refl, ap, ◌∙◌, subst, ◌⊎◌, inl, inr, ⊎_elim, arith, Option, Some, None}
 use mathlib.Core.Option.{none, some, some-injective, some-ne-none}
 use mathlib.Core.Option as maybe
 use lib.ListN.{get_elem?}
@@ -7,12 +7,13 @@ use Rattle.atomic_table.specs.Table.{State}
 use Rattle.turn_lock.specs.declared.known.Known.{Known}
 use Rattle.turn_lock.specs.declared.stage.Stage.{Stage}
 use Rattle.turn_lock.specs.declared.stage.Stage.TheVariants.{Fresh, Filling, Idle, Waiting, Serving, Spent}
+use Rattle.turn_lock.specs.Lists.{IsFront}
 use Rattle.turn_lock.specs.Seat.{IsServing}
 use Rattle.turn_lock.specs.Account.{Queue, Account}
 use Rattle.turn_lock.specs.Rule.{fresh, filling, ticket_count, HasTicket, IsAtHome, IsAway, AccountsFor, IsOpening, KeepsRule}
-use Rattle.turn_lock.specs.Laws.{HasDrawn, IsSeat, ComesFirst, AllHaveSeen, NoneIsServed, AreCounted, HasHome, TicketsAreCounted, TicketsAreApart, ServedComesFirst, FoundComesFirst, TurnHasSlot, OutIsTurn, HomeStands, TurnSeesAll}
-use Rattle.turn_lock.proofs.Lists.{at_once, alone}
-use Rattle.turn_lock.proofs.Stages.{serves_at, serves_once, serving_is}
+use Rattle.turn_lock.specs.Laws.{HasDrawn, IsSeat, ComesFirst, AllHaveSeen, NoneIsServed, AreCounted, TicketsAreCounted, TicketsAreApart, ServedComesFirst, FoundComesFirst, TurnHasSlot, OutIsTurn, HomeStands, TurnSeesAll}
+use Rattle.turn_lock.proofs.Lists.{alone}
+use Rattle.turn_lock.proofs.Stages.{serves_at, serving_is}
 use Rattle.turn_lock.proofs.Looking.{served_is, home_at}
 use Rattle.turn_lock.proofs.Views.{ticket_count_below}
 use Rattle.turn_lock.proofs.Standing.{Begun, settled, turn_is}
@@ -119,13 +120,14 @@ module _ {V E : Type 0} (stands : V → List E → Type 0) (actor : E → Option
   )
 
   -- before the lock has its value no ticket was drawn
-  none_counted : (s : State (Option V) (Known E)) (x : Known E) → s.words ≡ 0 ∷ 0 ∷ 0 ∷ [] → s.views ≡ x ∷ [] → (Begun x.stage → ⊥) → ticket_count (x ∷ []) ≡ 0 → AreCounted s 0 0
-  none_counted s x words views early few = record {
+  none_counted : (s : State (Option V) (Known E)) (x : Known E) → s.words ≡ 0 ∷ 0 ∷ 0 ∷ [] → s.views ≡ x ∷ [] → (Begun x.stage → ⊥) → ticket_count (x ∷ []) ≡ 0 → x.over ≡ 0 → AreCounted s 0 0
+  none_counted s x words views early few new = record {
     next = ap (λ (z : List ℕ). get_or z 0 0) words;
     served = ap (λ (z : List ℕ). get_or z 1 0) words;
     held = let e : ticket_count s.views ≡ 0 = ap (λ (z : List (Known E)). ticket_count z) views ∙ few in omega arith;
     each = λ j t v at is. absurd (early (drawn_begun t x.stage (subst (λ (z : Known E). HasDrawn t z.stage) (sym (the_one j v at)) is)));
     turn = λ j t v at is. absurd (early (drawn_begun t x.stage (subst (λ (z : Known E). HasDrawn t z.stage) (sym (the_one j v at)) (has_serving t v.stage is))));
+    known = λ j v at. let e : v.over ≡ x.over = ap (λ (z : Known E). z.over) (sym (the_one j v at)) in omega arith;
   }
     where
       the_one : (j : ℕ) (v : Known E) → IsSeat s j v → x ≡ v
@@ -135,12 +137,17 @@ module _ {V E : Type 0} (stands : V → List E → Type 0) (actor : E → Option
   pub tickets_counted : TicketsAreCounted stands actor
   tickets_counted s r = ⊎_elim {C = (over : ℕ) × (drawn : ℕ) × AreCounted s over drawn}
       (λ (o : IsOpening stands actor s). ⊎_elim {C = (over : ℕ) × (drawn : ℕ) × AreCounted s over drawn}
-      (λ (t : (s.views ≡ fresh ∷ []) × (s.homes ≡ some None ∷ [])). (0, 0, none_counted s fresh o.0 t.0 (λ b. b) refl))
-      (λ (t : (s.views ≡ filling ∷ []) × (s.homes ≡ none ∷ [])). (0, 0, none_counted s filling o.0 t.0 (λ b. b) refl)) o.1)
-      (λ (k : (a : Account E) × AccountsFor stands actor a s). (k.0.queue.served, k.0.queue.drawn, record {
-        next = ap (λ (z : List ℕ). get_or z 0 0) k.1.words;
-        served = ap (λ (z : List ℕ). get_or z 1 0) k.1.words;
-        held = k.1.tickets;
-        each = λ j t v at is. let h = ticket_in k.0 s k.1 j t v at is in (h.0, h.1);
-        turn = λ j t v at is. (turn_is stands actor k.0 s k.1 j t v at is).2;
-      })) r
+      (λ (t : (s.views ≡ fresh ∷ []) × (s.homes ≡ some None ∷ [])). (0, 0, none_counted s fresh o.0 t.0 (λ b. b) refl refl))
+      (λ (t : (s.views ≡ filling ∷ []) × (s.homes ≡ none ∷ [])). (0, 0, none_counted s filling o.0 t.0 (λ b. b) refl refl)) o.1)
+      (λ (k : (a : Account E) × AccountsFor stands actor a s). (
+        k.0.queue.served,
+        k.0.queue.drawn,
+        record {
+          next = ap (λ (z : List ℕ). get_or z 0 0) k.1.words;
+          served = ap (λ (z : List ℕ). get_or z 1 0) k.1.words;
+          held = k.1.tickets;
+          each = λ j t v at is. let h = ticket_in k.0 s k.1 j t v at is in (h.0, h.1);
+          turn = λ j t v at is. (turn_is stands actor k.0 s k.1 j t v at is).2;
+          known = λ j v at. (k.1.each j v at).over;
+        },
+      )) r

@@ -1,8 +1,7 @@
 -- What the rule of a lock says of turns, at every moment.
 use Rattle.std.specs.Prelude.{◌≡◌, ◌≢◌, ◌⊎◌, ℕ, ◌+◌, ◌%◌, ◌^◌, ◌<◌, ◌≤◌}
-use Rattle.std.specs.Prelude.{List, [], ◌∷◌, length, slice_index, Option, Some, None}
+use Rattle.std.specs.Prelude.{List, [], ◌∷◌, length, slice_index, Option, Some}
 use mathlib.Core.Option.{none, some}
-use mathlib.Core.Option as maybe
 use lib.ListN.{get_elem?}
 use Rattle.atomic_table.specs.Table.{State}
 use Rattle.turn_lock.specs.declared.known.Known.{Known}
@@ -11,7 +10,7 @@ use Rattle.turn_lock.specs.declared.stage.Stage.TheVariants.{Fresh, Filling, Idl
 use Rattle.turn_lock.specs.declared.stage.Stage.TheVariants.{Serving, Spent}
 use Rattle.turn_lock.specs.Lists.{IsFront}
 use Rattle.turn_lock.specs.Seat.{IsServing}
-use Rattle.turn_lock.specs.Rule.{filling, ticket_count, KeepsRule}
+use Rattle.turn_lock.specs.Rule.{ticket_count, KeepsRule}
 
 -- a seat at this stage has this ticket: it waits with it, or is served with it
 abbrev pub HasDrawn : ℕ → Stage → Type 0
@@ -47,6 +46,7 @@ module _ {V E : Type 0} (s : State (Option V) (Known E)) where
     pub each :
         (j t : ℕ) (v : Known E) → IsSeat j v → HasDrawn t v.stage → (over ≤ t) × (t < drawn)
     pub turn : (j t : ℕ) (v : Known E) → IsSeat j v → v.stage ≡ Serving t → t ≡ over
+    pub known : (j : ℕ) (v : Known E) → IsSeat j v → v.over ≤ over
 
   -- the value is in the slot, and stands for a history of which each seat has seen a front
   abbrev pub HasHome : (V → List E → Type 0) → Type 0
@@ -59,7 +59,8 @@ module _ {V E : Type 0} (stands : V → List E → Type 0) (actor : E → Option
   abbrev pub AtEachMoment : (State (Option V) (Known E) → Type 0) → Type 0
   AtEachMoment P = (s : State (Option V) (Known E)) → KeepsRule stands actor s → P s
 
-  -- a ticket that a seat has was drawn and isn't over, and the one that is served is the next
+  -- a ticket that a seat has was drawn and isn't over, the one that is served is the next, and what a
+  -- seat knows to be over is
   abbrev pub TicketsAreCounted : Type 0
   TicketsAreCounted = AtEachMoment (λ s. (over : ℕ) × (drawn : ℕ) × AreCounted s over drawn)
 

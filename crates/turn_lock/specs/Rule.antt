@@ -75,9 +75,10 @@ pub record Knows {E : Type 0} (r : Roll) (seat : ℕ) (v : Known E) : Type 0 whe
   pub numbers : (n : ℕ) → Contains (numbers v) n → (r.owner n ≡ seat) × (n < r.seats)
   pub count : v.number ≡ 0 → v.seats ≡ r.seats
 
--- a seat has seen a front of the history, and a spent one has nothing left
+-- a seat has seen a front of the history and of the turns, and a spent one has nothing left
 pub record Fits {E : Type 0} (a : Account E) (seat : ℕ) (v : Known E) : Type 0 where
   pub ticket : HasTicket a.queue seat v.stage
+  pub over : v.over ≤ a.queue.served
   pub seen : IsFront v.seen a.history
   pub told : IsFront v.told a.history
   pub gone : IsSpent v.stage → (v.seen ≡ []) × (v.mine ≡ [])

@@ -1,6 +1,6 @@
 -- What a seat knows, and how a call changes it.
 use Rattle.std.specs.Prelude.{◌≡◌, ℕ, ◌+◌, ◌<◌, ◌≤◌, List, [], ◌∷◌, ◌++◌}
-use Rattle.std.specs.Prelude.{length, slice_get, Contains, Option, Some, None}
+use Rattle.std.specs.Prelude.{max, length, slice_get, Contains, Option, Some, None}
 use Rattle.std.specs.List.Sorted.{IsStrictlyIncreasing}
 use Rattle.atomic_table.specs.Seated.{TableId}
 use Rattle.turn_lock.specs.declared.known.Known.{Known}
@@ -28,6 +28,11 @@ abbrev pub IsServing : Stage → Type 0
 IsServing (Serving ticket) = Unit {0}
 IsServing _ = ⊥
 
+-- it is the turn of a seat at this stage, and its ticket comes behind those below this one
+abbrev pub IsServedFrom : ℕ → Stage → Type 0
+IsServedFrom n (Serving ticket) = n ≤ ticket
+IsServedFrom n _ = ⊥
+
 -- the numbers of the seat and of those that were joined into it
 abbrev pub numbers : {E : Type 0} → Known E → List ℕ
 numbers v = v.number ∷ v.joined
@@ -52,10 +57,20 @@ MayGive {E} actor number said = (e : E) (n : ℕ) → Contains said e → actor 
 abbrev pub at_stage : {E : Type 0} → Stage → Known E → Known E
 at_stage stage v = record v { stage = stage }
 
+-- the ticket behind the one that a seat at this stage is served with
+abbrev pub ticket_after : Stage → ℕ
+ticket_after (Serving ticket) = ticket + 1
+ticket_after _ = 0
+
+-- a seat whose turn is over
+abbrev pub after_turn : {E : Type 0} → Known E → Known E
+after_turn v = record v { stage = Idle; over = ticket_after v.stage }
+
 -- a seat of this number that has seen this history and has no event of its own
 abbrev pub unmarked : {E : Type 0} → ℕ → List E → Known E
 unmarked number history = record {
   stage = Idle;
+  over = 0;
   seen = history;
   told = [];
   mine = [];
@@ -83,11 +98,12 @@ after_split v = record v { seats = v.seats + 1 }
 
 -- the seat that a split of the first one gives: it has seen as much, and its number is the next
 abbrev pub newcomer : {E : Type 0} → Known E → Known E
-newcomer v = record (unmarked v.seats v.seen) { base = v.base }
+newcomer v = record (unmarked v.seats v.seen) { over = v.over; base = v.base }
 
 -- a seat into which another was joined
 abbrev pub after_join : {E : Type 0} → Known E → Known E → Known E
 after_join v w = record v {
+  over = max v.over w.over;
   seen = longer v.seen w.seen;
   told = shorter v.seen w.seen;
   mine = merged v.mine w.mine;

@@ -1,12 +1,12 @@
 -- What each step tells its seat: of the step, the seat before, the word found, the seat after.
-use Rattle.std.specs.Prelude.{◌≡◌, ◌≢◌, ℕ, ◌%◌, ◌^◌, List, ◌∷◌, length}
+use Rattle.std.specs.Prelude.{◌≡◌, ◌≢◌, ◌≤◌, ℕ, ◌%◌, ◌^◌, List, ◌∷◌, length}
 use Rattle.std.specs.Prelude.{Option, Some, None}
 use Rattle.atomic_table.specs.Table.{Me, Step, rest}
 use Rattle.turn_lock.specs.declared.known.Known.{Known}
-use Rattle.turn_lock.specs.declared.stage.Stage.TheVariants.{Idle, Waiting, Serving}
+use Rattle.turn_lock.specs.declared.stage.Stage.TheVariants.{Waiting, Serving}
 use Rattle.turn_lock.specs.Lists.{IsFront}
 use Rattle.turn_lock.specs.Seat.{HasOwnEvents, HasPlaces, first_seat, with_events}
-use Rattle.turn_lock.specs.Seat.{at_stage, having_seen}
+use Rattle.turn_lock.specs.Seat.{at_stage, after_turn, having_seen}
 use Rattle.turn_lock.specs.Rule.{filling}
 
 -- what a seat knows, and the slot that it may hold
@@ -22,9 +22,11 @@ module _ {V E : Type 0} where
   abbrev pub AfterBegin : List E → Step (Option V) → Mine V E → ℕ → Mine V E → Type 0
   AfterBegin history step m r w = w ≡ (first_seat history, rest m.1)
 
-  -- the seat has the ticket whose remainder was found
+  -- the seat has the ticket whose remainder was found, and which isn't one of those that it knows to
+  -- be over
   abbrev pub AfterDraw : Step (Option V) → Mine V E → ℕ → Mine V E → Type 0
-  AfterDraw step m r w = (t : ℕ) × (w ≡ (at_stage (Waiting t) m.0, m.1)) × (r ≡ t % 2 ^ 64)
+  AfterDraw step m r w =
+      (t : ℕ) × (w ≡ (at_stage (Waiting t) m.0, m.1)) × (r ≡ t % 2 ^ 64) × (m.0.over ≤ t)
 
   -- the seat is served, has the slot in hand, and the value in it stands for what it has then seen
   abbrev pub IsServed : (V → List E → Type 0) → (E → Option ℕ) → ℕ → Mine V E → Mine V E → Type 0
@@ -47,9 +49,9 @@ module _ {V E : Type 0} where
   abbrev pub AfterCount : List E → Step (Option V) → Mine V E → ℕ → Mine V E → Type 0
   AfterCount es step m r w = w ≡ (with_events es m.0, m.1)
 
-  -- the seat has no ticket, and the slot is at home
+  -- the seat's turn is over, and the slot is at home
   abbrev pub AfterPass : Step (Option V) → Mine V E → ℕ → Mine V E → Type 0
-  AfterPass step m r w = w ≡ (at_stage Idle m.0, rest m.1)
+  AfterPass step m r w = w ≡ (after_turn m.0, rest m.1)
 
   -- of two seats that were joined the one saw a front of the other, and no place was both theirs
   abbrev pub AfterLearn : Step (Option V) → Mine V E → ℕ → Mine V E → Type 0

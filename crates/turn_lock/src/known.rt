@@ -6,6 +6,8 @@ use std::collections::LinkedList;
 /// What a seat knows of its lock and of itself. Contracts alone see it: no value of it is made.
 pub struct Known<E> {
     pub stage: Stage,
+    /// How many turns it knows to be over: those of all tickets below this one.
+    pub over: u64,
     /// The events that it has seen, a front of the lock's history.
     pub seen: LinkedList<E>,
     /// The shorter one of the two that it had seen at its last join.

@@ -6,8 +6,8 @@ ghost use Rattle.turn_lock.specs.declared.stage.Stage.TheVariants.{Idle};
 ghost use Rattle.turn_lock.specs.Lists.{IsFront};
 ghost use Rattle.turn_lock.specs.Rule.{fresh};
 ghost use Rattle.turn_lock.specs.Seat.{IsServing, held_at, numbers, HasOwnEvents, HasPlaces};
-ghost use Rattle.turn_lock.specs.Seat.{MayGive, HasWholeHistory, at_stage, first_seat, having_seen};
-ghost use Rattle.turn_lock.specs.Seat.{with_events, after_split, newcomer, after_join};
+ghost use Rattle.turn_lock.specs.Seat.{IsServedFrom, MayGive, HasWholeHistory, first_seat, having_seen};
+ghost use Rattle.turn_lock.specs.Seat.{with_events, after_turn, after_split, newcomer, after_join};
 
 use crate::counted::Counted;
 use crate::known::Known;
@@ -98,6 +98,7 @@ impl<V: Counted> TurnLock<V> {
         // what the caller has
         ensures value { V.stands result seat.new.known.seen }
         ensures turn { IsServing seat.new.known.stage }
+        ensures in_order { IsServedFrom seat.old.known.over seat.new.known.stage }
 
         // what the seat has seen
         ensures front { IsFront seat.old.known.seen seat.new.known.seen }
@@ -151,7 +152,7 @@ impl<V: Counted> TurnLock<V> {
         requires own { MayGive V.actor seat.old.known.number said }
 
         // what the seat has then, and what stays
-        ensures given { seat.new.known ≡ at_stage Idle (with_events said seat.old.known) }
+        ensures given { seat.new.known ≡ after_turn (with_events said seat.old.known) }
         ensures lock { seat.new.lock ≡ seat.old.lock }
     {
         self.note::<Brand>(&mut seat.place, &value);
@@ -178,7 +179,7 @@ impl<V: Counted> TurnLock<V> {
         requires own { MayGive V.actor seat.old.known.number said }
 
         // what the seat has then, and what stays
-        ensures given { seat.new.known ≡ at_stage Idle (with_events said seat.old.known) }
+        ensures given { seat.new.known ≡ after_turn (with_events said seat.old.known) }
         ensures lock { seat.new.lock ≡ seat.old.lock }
     {
         let _ = about;

@@ -4,7 +4,7 @@ ghost use Rattle.std.specs.Prelude.{◌≡◌, ◌<◌, ◌≤◌, ◌++◌, ◌
 ghost use Rattle.std.specs.Prelude.{Contains, IfOk, IfSome, IsTrue, OnErr, OnOk, Some};
 ghost use Rattle.turn_lock.specs.declared.stage.Stage.TheVariants.{Idle};
 ghost use Rattle.turn_lock.specs.declared.tests.Mark.{Mark};
-ghost use Rattle.turn_lock.specs.Seat.{IsIdle, IsServing, at_stage, after_split, first_seat, newcomer};
+ghost use Rattle.turn_lock.specs.Seat.{IsIdle, IsServing, after_turn, after_split, first_seat, newcomer};
 ghost use Rattle.turn_lock.specs.Tests.{AreThree, Says, having_given};
 
 use crate::counted::Counted;
@@ -51,7 +51,7 @@ fn give_back(lock: &TurnLock<Tape>, seat: &mut Seat<Tape>, tape: Tape)
     requires turn { IsServing seat.old.known.stage }
     requires says { Says (λ mark. Some mark.by) seat.old.known tape.marks.items }
     ensures given { seat.new.known
-        ≡ at_stage Idle (having_given seat.old.known tape.marks.items) }
+        ≡ after_turn (having_given seat.old.known tape.marks.items) }
     ensures lock { seat.new.lock ≡ seat.old.lock }
 {
     lock.give(seat, tape);

@@ -1,4 +1,4 @@
-use Rattle.std.proofs.Common.{rules, ◌∙◌, ◌∷◌, sym, ap, Some}
+use Rattle.std.proofs.Common.{rules, ℕ, ◌≤◌, subst, ◌∙◌, ◌∷◌, sym, ap, Some}
 use Rattle.atomic_table.specs.Table.{rest}
 use Rattle.turn_lock.specs.Seat.{held_at, at_stage}
 use Rattle.turn_lock.specs.declared.stage.Stage.TheVariants.{Waiting}
@@ -15,7 +15,7 @@ pub loop-init : goal.loop-init
 loop-init g c =
     let d = c.fetch_add-ticket.ensures in let drawn = d.2 in let known = ap (λ z. z.known) c.seat.view_is in
     let none = c.seat.invariant.1 ∙ (λ i. held_at (((λ j. (known j).stage) ∙ c.requires.rests) i)) in
-    (drawn.0, drawn.1 ∙ (λ i. (at_stage (Waiting drawn.0) (known i), none i)), drawn.2, search rules, search rules)
+    (drawn.0, drawn.1 ∙ (λ i. (at_stage (Waiting drawn.0) (known i), none i)), drawn.2, subst (λ (n : ℕ). n ≤ drawn.0) (λ i. (known i).over) drawn.3, search rules, search rules)
 
 pub load-serving-requires : goal.load-serving-requires
 load-serving-requires g c =
