@@ -59,8 +59,8 @@ module _ {V E : Type 0} (stands : V → List E → Type 0) (actor : E → Option
   abbrev pub AtEachMoment : (State (Option V) (Known E) → Type 0) → Type 0
   AtEachMoment P = (s : State (Option V) (Known E)) → KeepsRule stands actor s → P s
 
-  -- a ticket that a seat has was drawn and isn't over, the one that is served is the next, and what a
-  -- seat knows to be over is
+  -- a ticket that a seat has was drawn and isn't over, the one that is served is the next, and what
+  -- a seat knows to be over is
   abbrev pub TicketsAreCounted : Type 0
   TicketsAreCounted = AtEachMoment (λ s. (over : ℕ) × (drawn : ℕ) × AreCounted s over drawn)
 
@@ -86,7 +86,8 @@ module _ {V E : Type 0} (stands : V → List E → Type 0) (actor : E → Option
   TurnHasSlot = AtEachMoment (λ s. (j : ℕ) (v : Known E)
       → IsSeat s j v → IsServing v.stage → s.homes ≡ none ∷ [])
 
-  -- while the slot is out, it is the turn of a seat, or the first one is about to bring the value in
+  -- while the slot is out, it is the turn of a seat, or the first one is about to bring the value
+  -- in
   abbrev pub OutIsTurn : Type 0
   OutIsTurn = AtEachMoment (λ s. s.homes ≡ none ∷ []
       → (j : ℕ) × ((v : Known E) × IsSeat s j v × (IsServing v.stage ⊎ (v.stage ≡ Filling))))

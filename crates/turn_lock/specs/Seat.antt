@@ -37,8 +37,8 @@ IsServedFrom n _ = ⊥
 abbrev pub numbers : {E : Type 0} → Known E → List ℕ
 numbers v = v.number ∷ v.joined
 
--- each event since `new` that it has seen, and that carries a number of the seat or of one joined into
--- it, stands at one of its places
+-- each event since `new` that it has seen, and that carries a number of the seat or of one joined
+-- into it, stands at one of its places
 abbrev pub HasOwnEvents : {E : Type 0} → (E → Option ℕ) → Known E → Type 0
 HasOwnEvents {E} actor v =
     (p n : ℕ) (e : E) → v.base ≤ p → slice_get v.seen p ≡ Some e
@@ -52,6 +52,14 @@ pub record HasPlaces {E : Type 0} (v : Known E) : Type 0 where
 -- each event that carries a number carries this one
 abbrev pub MayGive : {E : Type 0} → (E → Option ℕ) → ℕ → List E → Type 0
 MayGive {E} actor number said = (e : E) (n : ℕ) → Contains said e → actor e ≡ Some n → n ≡ number
+
+-- the value has had these events since the seat took it: one or none, and the seat may give it
+pub record HasHad
+    {V E : Type 0} (stands : V → List E → Type 0) (actor : E → Option ℕ)
+    (v : Known E) (x : V) (said : List E) : Type 0 where
+  pub value : stands x (v.seen ++ said)
+  pub one : length said ≤ 1
+  pub own : MayGive actor v.number said
 
 -- a seat at this stage
 abbrev pub at_stage : {E : Type 0} → Stage → Known E → Known E

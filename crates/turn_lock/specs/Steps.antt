@@ -22,8 +22,7 @@ module _ {V E : Type 0} where
   abbrev pub AfterBegin : List E → Step (Option V) → Mine V E → ℕ → Mine V E → Type 0
   AfterBegin history step m r w = w ≡ (first_seat history, rest m.1)
 
-  -- the seat has the ticket whose remainder was found, and which isn't one of those that it knows to
-  -- be over
+  -- the seat has the ticket whose remainder was found; it isn't one that it knows to be over
   abbrev pub AfterDraw : Step (Option V) → Mine V E → ℕ → Mine V E → Type 0
   AfterDraw step m r w =
       (t : ℕ) × (w ≡ (at_stage (Waiting t) m.0, m.1)) × (r ≡ t % 2 ^ 64) × (m.0.over ≤ t)

@@ -1,7 +1,7 @@
 //! What the lock's rule says at every moment. Each function runs nothing; its contract is the law.
 //!
-//! Each step of a call on the lock's words keeps the rule, so the laws hold between any two steps of
-//! any threads.
+//! Each step of a call on the lock's words keeps the rule, so the laws hold between any two steps
+//! of any threads.
 
 ghost use Rattle.turn_lock.specs.Laws.{TicketsAreCounted, TicketsAreApart, ServedComesFirst};
 ghost use Rattle.turn_lock.specs.Laws.{FoundComesFirst, TurnHasSlot, OutIsTurn, HomeStands};

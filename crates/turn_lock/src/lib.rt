@@ -1,8 +1,9 @@
 //! A lock that serves its callers by turn, and hands a value on with the history of its events.
 //!
 //! The layer above makes a value `Counted`, gives each caller a seat, and changes the value between
-//! `take` and `give`. Contracts tell what a seat has seen of the one history, and which places in it
-//! are its own. The layer may not know how turns are kept. Nothing promises that a turn comes.
+//! `take` and `give`. Contracts tell what a seat has seen of the one history, and which places in
+//! it are its own; the laws say that turns come in the order of the tickets. The layer may not know
+//! how turns are kept. Nothing promises that a turn comes.
 #![tactic(auto)]
 
 mod counted;

@@ -5,9 +5,10 @@ ghost use Rattle.std.specs.Prelude.{[], Contains, IfOk, IfErr, OnOk, OnErr};
 ghost use Rattle.turn_lock.specs.declared.stage.Stage.TheVariants.{Idle};
 ghost use Rattle.turn_lock.specs.Lists.{IsFront};
 ghost use Rattle.turn_lock.specs.Rule.{fresh};
-ghost use Rattle.turn_lock.specs.Seat.{IsServing, held_at, numbers, HasOwnEvents, HasPlaces};
-ghost use Rattle.turn_lock.specs.Seat.{IsServedFrom, MayGive, HasWholeHistory, first_seat, having_seen};
-ghost use Rattle.turn_lock.specs.Seat.{with_events, after_turn, after_split, newcomer, after_join};
+ghost use Rattle.turn_lock.specs.Seat.{IsServing, IsServedFrom, held_at, numbers};
+ghost use Rattle.turn_lock.specs.Seat.{HasOwnEvents, HasPlaces, HasHad, HasWholeHistory};
+ghost use Rattle.turn_lock.specs.Seat.{first_seat, having_seen, with_events, after_turn};
+ghost use Rattle.turn_lock.specs.Seat.{after_split, newcomer, after_join};
 
 use crate::counted::Counted;
 use crate::known::Known;
@@ -88,8 +89,9 @@ impl<V: Counted> TurnLock<V> {
         shared.store::<Begin<K>>(place, EVENTS, events);
     }
 
-    /// Waits for the seat's turn, and takes the value. It stands for what the seat has then seen, which
-    /// by the lock's rule is the whole history. It takes no memory.
+    /// Waits for the seat's turn, and takes the value. It stands for what the seat has then seen,
+    /// which is the whole history (`law_history`). The turn comes after all those that the seat knows
+    /// to be over, and its ticket is the lowest that isn't (`law_order`). It takes no memory.
     pub fn take<R: Wait>(&self, rt: &R, seat: &mut Seat<V>) -> V
         // what it asks
         requires lock { seat.old.lock ≡ self.now }
@@ -130,28 +132,20 @@ impl<V: Counted> TurnLock<V> {
         unreachable!()
     }
 
-    // Sleeps while this ticket is served, if it still is. It is the one that was looked at, not a later
-    // one: else a seat may sleep through its own turn.
+    // Sleeps while this ticket is served, if it still is. It is the one that was looked at, not a
+    // later one: else a seat may sleep through its own turn.
     fn sleep<R: Wait>(&self, rt: &R, serving: u64) {
         let low = serving % (1 << 32);
         self.table.shared.park(rt, SERVING, low as u32);
     }
 
-    /// Gives the value back, and ends the seat's turn. The caller says which event the value has had
-    /// since it was taken, if any. It takes no memory.
+    /// Gives the value back, and ends the seat's turn. The caller says which event the value has
+    /// had since it was taken, if any. It takes no memory.
     pub fn give(&self, seat: &mut Seat<V>, value: V)
         ghost said: { List V.Event }
-
-        // what it asks
         requires lock { seat.old.lock ≡ self.now }
         requires turn { IsServing seat.old.known.stage }
-        requires value { V.stands value (seat.old.known.seen ++ said) }
-
-        // what may be said
-        requires one { length said ≤ 1 }
-        requires own { MayGive V.actor seat.old.known.number said }
-
-        // what the seat has then, and what stays
+        requires events { HasHad V.stands V.actor seat.old.known value said }
         ensures given { seat.new.known ≡ after_turn (with_events said seat.old.known) }
         ensures lock { seat.new.lock ≡ seat.old.lock }
     {
@@ -168,17 +162,9 @@ impl<V: Counted> TurnLock<V> {
     /// As `give`. What the caller says may be computed from `about`, which isn't touched.
     pub fn give_about<X>(&self, seat: &mut Seat<V>, value: V, about: &X)
         ghost said: { List V.Event }
-
-        // what it asks
         requires lock { seat.old.lock ≡ self.now }
         requires turn { IsServing seat.old.known.stage }
-        requires value { V.stands value (seat.old.known.seen ++ said) }
-
-        // what may be said
-        requires one { length said ≤ 1 }
-        requires own { MayGive V.actor seat.old.known.number said }
-
-        // what the seat has then, and what stays
+        requires events { HasHad V.stands V.actor seat.old.known value said }
         ensures given { seat.new.known ≡ after_turn (with_events said seat.old.known) }
         ensures lock { seat.new.lock ≡ seat.old.lock }
     {
@@ -192,11 +178,7 @@ impl<V: Counted> TurnLock<V> {
         requires lock { place.old.table_id ≡ self.now }
         requires turn { IsServing place.old.me.0.stage }
         requires held { place.old.me.1 ≡ held_at place.old.me.0.stage }
-        requires value { V.stands value.now (place.old.me.0.seen ++ K.named) }
-
-        // what may be named
-        requires one { length K.named ≤ 1 }
-        requires own { MayGive V.actor place.old.me.0.number K.named }
+        requires events { HasHad V.stands V.actor place.old.me.0 value.now K.named }
 
         // what the seat has then, and what stays
         ensures noted { place.new.me ≡ (with_events K.named place.old.me.0, place.old.me.1) }

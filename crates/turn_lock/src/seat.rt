@@ -7,8 +7,9 @@ use std::marker::Model;
 // A seat of the table.
 pub(crate) type Place<V> = atomic_table::Seat<Option<V>, Known<<V as Counted>::Event>>;
 
-/// What one caller takes turns with. It holds what its owner has seen, and which events are its own.
-/// The seat that `TurnLock::new` gives has the number 0, those that are split off it 1, 2 and so on.
+/// What one caller takes turns with. It holds what its owner has seen, and which events are its
+/// own. The seat that `TurnLock::new` gives has the number 0, those that are split off it 1, 2 and
+/// so on.
 #[derive(Drop)]
 pub struct Seat<V: Counted> {
     pub(crate) place: Place<V>,

@@ -4,7 +4,8 @@ ghost use Rattle.std.specs.Prelude.{◌≡◌, ◌<◌, ◌≤◌, ◌++◌, ◌
 ghost use Rattle.std.specs.Prelude.{Contains, IfOk, IfSome, IsTrue, OnErr, OnOk, Some};
 ghost use Rattle.turn_lock.specs.declared.stage.Stage.TheVariants.{Idle};
 ghost use Rattle.turn_lock.specs.declared.tests.Mark.{Mark};
-ghost use Rattle.turn_lock.specs.Seat.{IsIdle, IsServing, after_turn, after_split, first_seat, newcomer};
+ghost use Rattle.turn_lock.specs.Seat.{IsIdle, IsServing, after_turn, after_split};
+ghost use Rattle.turn_lock.specs.Seat.{first_seat, newcomer};
 ghost use Rattle.turn_lock.specs.Tests.{AreThree, Says, having_given};
 
 use crate::counted::Counted;

@@ -13,4 +13,4 @@ fetch_add-served-requires g c =
     let noted = c.note.ensures.noted ∙ (λ i. (with_events g.said (known i), held i)) in
     let is : c.exchange-old.new.seat.me ≡ (with_events g.said v, (0, Some value) ∷ []) =
     c.exchange-old.ensures.3 ∙ (λ i. ((noted i).0, (0, Some value) ∷ rest (noted i).1)) in
-    (search rules, search rules, passes g.V.Counted.stands g.V.Counted.actor _ _ turn.0 _ value (ap (λ m. m.0.stage) is ∙ turn.1) (ap (λ m. m.1) is) (subst (g.V.Counted.stands value) (ap (λ m. m.0.seen) (sym is)) q.1.0))
+    (search rules, search rules, passes g.V.Counted.stands g.V.Counted.actor _ _ turn.0 _ value (ap (λ m. m.0.stage) is ∙ turn.1) (ap (λ m. m.1) is) (subst (g.V.Counted.stands value) (ap (λ m. m.0.seen) (sym is)) q.1.value))

@@ -12,14 +12,14 @@ load-known-requires g c =
 pub returns-then-events-known-clause-noted : goal.returns-then-events-known-clause-noted
 returns-then-events-known-clause-noted g c =
     let l = c.load-known.ensures in let q = c.requires in let said = g.K.Names.named in let v = c.args.place.now.me.0 in
-    let none = none_came v.seen said c.events-events.result q.one (c.events-events.ensures _ q.value) (c.if-events-known.true ∙ l.2.1) in
+    let none = none_came v.seen said c.events-events.result q.events.one (c.events-events.ensures _ q.events.value) (c.if-events-known.true ∙ l.2.1) in
     l.2.0 ∙ (λ i. (with_no_events said v none i, c.args.place.now.me.1))
 
 pub fetch_add-requires : goal.fetch_add-requires
 fetch_add-requires g c =
     let l = c.load-known.ensures in let same = l.2.0 in let q = c.requires in let said = g.K.Names.named in
-    let one = one_came c.args.place.now.me.0.seen said c.events-events.result c.load-known.result q.one (c.events-events.ensures _ q.value) l.2.1 c.if-events-known.false in
-    (search rules, search rules, counts g.V.Counted.stands g.V.Counted.actor said _ _ _ (subst (λ m. IsServing m.0.stage) (sym same) q.turn) one (λ e n h a. q.own e n h a ∙ ap (λ m. m.0.number) (sym same)))
+    let one = one_came c.args.place.now.me.0.seen said c.events-events.result c.load-known.result q.events.one (c.events-events.ensures _ q.events.value) l.2.1 c.if-events-known.false in
+    (search rules, search rules, counts g.V.Counted.stands g.V.Counted.actor said _ _ _ (subst (λ m. IsServing m.0.stage) (sym same) q.turn) one (λ e n h a. q.events.own e n h a ∙ ap (λ m. m.0.number) (sym same)))
 
 pub returns-clause-noted : goal.returns-clause-noted
 returns-clause-noted g c =
