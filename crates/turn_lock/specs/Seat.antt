@@ -28,7 +28,7 @@ abbrev pub IsServing : Stage → Type 0
 IsServing (Serving ticket) = Unit {0}
 IsServing _ = ⊥
 
--- it is the turn of a seat at this stage, and its ticket comes behind those below this one
+-- it is the turn of a seat at this stage, with a ticket of this number or a later one
 abbrev pub IsServedFrom : ℕ → Stage → Type 0
 IsServedFrom n (Serving ticket) = n ≤ ticket
 IsServedFrom n _ = ⊥
