@@ -5,7 +5,9 @@ use Rattle.std.proofs.lemmas.List.Elements.{Contains-append_left, Contains-appen
 use Rattle.turn_lock.specs.declared.known.Known.{Known}
 use Rattle.std.proofs.Math.Seq.{drop-append_seam}
 use Rattle.turn_lock.specs.Tests.{Says}
-use Rattle.turn_lock.specs.Seat.{MayGive, HasWholeHistory, numbers, after_join}
+use Rattle.turn_lock.specs.declared.stage.Stage.{Stage}
+use Rattle.turn_lock.specs.declared.stage.Stage.TheVariants.{Fresh, Filling, Idle, Waiting, Serving, Spent}
+use Rattle.turn_lock.specs.Seat.{IsServedFrom, ticket_after, MayGive, HasWholeHistory, numbers, after_join}
 use Rattle.turn_lock.specs.Lists.{merged}
 use Rattle.turn_lock.proofs.Lists.{same_some}
 use Rattle.turn_lock.proofs.Contained.{contains_none, contains_first, contains_next, contains_alone}
@@ -26,6 +28,15 @@ module _ {E : Type 0} (actor : E → Option ℕ) where
       (says_of v (x ∷ []) (omega arith) (λ e n h a. same_some n v.number (sym a ∙ (ap actor (sym (contains_alone x e h)) ∙ by))))
   says false x old events v same is by = subst (Says actor v) (append-nil v.seen ∙ (same ∙ sym is))
       (says_of v [] (omega arith) (λ e n h a. absurd (contains_none e h)))
+
+-- a turn comes after those that the seat knew to be over, and is over then
+pub turn_comes_after : (n : ℕ) (g : Stage) → IsServedFrom n g → n < ticket_after g
+turn_comes_after n (Serving t) from = omega arith
+turn_comes_after n (Waiting t) from = absurd from
+turn_comes_after n Fresh from = absurd from
+turn_comes_after n Filling from = absurd from
+turn_comes_after n Idle from = absurd from
+turn_comes_after n Spent from = absurd from
 
 module _ {E : Type 0} (u v w : Known E) where
   -- the numbers of a first seat into which the seats 1 and 2 were joined

@@ -99,10 +99,11 @@ fn add_three<R: Wait>(
 }
 
 /// A turn without an event, long enough for others to fall asleep. It leaves the seat's places as
-/// they were.
+/// they were, and comes after all turns that the seat knew to be over.
 fn idle_turn<R: Wait + Clock>(rt: &R, lock: &TurnLock<Tape>, mut seat: Seat<Tape>) -> Seat<Tape>
     requires { IsIdle lock.now seat.known.number seat }
     ensures places { result.known.mine ≡ seat.known.mine }
+    ensures after { seat.known.over < result.known.over }
     ensures idle { IsIdle lock.now seat.known.number result }
 {
     let tape = lock.take(rt, &mut seat);
