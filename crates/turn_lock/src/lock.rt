@@ -90,8 +90,8 @@ impl<V: Counted> TurnLock<V> {
     }
 
     /// Waits for the seat's turn, and takes the value. It stands for what the seat has then seen,
-    /// which is the whole history (`law_history`). The turn comes after all those that the seat knows
-    /// to be over, and its ticket is the lowest that isn't (`law_order`). It takes no memory.
+    /// which is the whole history (`law_history`). The turn comes after all those that the seat
+    /// knows to be over, and its ticket is the lowest that isn't (`law_order`). It takes no memory.
     pub fn take<R: Wait>(&self, rt: &R, seat: &mut Seat<V>) -> V
         // what it asks
         requires lock { seat.old.lock ≡ self.now }
