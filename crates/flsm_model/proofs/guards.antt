@@ -9,3 +9,4 @@ pub mod NewRows
 pub mod ShapeLaw
 pub mod NestLaw
 pub mod BoundLaw
+pub mod Indexed

@@ -30,3 +30,4 @@ pub mod LastLevel
 pub mod Picked
 pub mod Contents
 pub mod Candidates
+pub mod GuardRanges

@@ -19,6 +19,7 @@ ghost use Rattle.flsm_model.specs.Settling.{EditsSettle, MeasureFalls, OutcomesC
 ghost use Rattle.flsm_model.specs.Picked.{PickedIsLawful, IdleHasRoom, ChosenAscend, AscendingAreEqual};
 ghost use Rattle.flsm_model.specs.Candidates.{CandidatesMeet};
 ghost use Rattle.flsm_model.specs.Claims.{FreeByClaims};
+ghost use Rattle.flsm_model.specs.GuardRanges.{RangeIsOfGuard, RangesPartKeys, RowsLieInRanges, NewGuardIsInserted};
 ghost use Rattle.flsm_model.specs.Contents.{TablesStand, NewestIsShown};
 ghost use Rattle.flsm_model.specs.Sound.{RecordsSound, RecordsNested, RecordsBounded};
 
@@ -149,4 +150,14 @@ pub fn law_candidates()
 /// and keys are collected.
 pub fn law_claims()
     ensures { FreeByClaims }
+{}
+
+/// The guards of a level by their index and by their ranges are the same: the range that has a key
+/// is the one at its guard's index, each key lies in just one, and a table lies in a guard exactly
+/// where its row lies in the guard's range. A new guard key is inserted behind those of its guard.
+pub fn law_guard_ranges()
+    ensures range { RangeIsOfGuard }
+    ensures keys { RangesPartKeys }
+    ensures rows { RowsLieInRanges }
+    ensures insert { NewGuardIsInserted }
 {}

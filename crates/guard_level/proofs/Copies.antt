@@ -7,7 +7,8 @@ use Rattle.peb_base.specs.Keys.{Bytes}
 use Rattle.peb_base.specs.declared.entry.Entry.{Entry}
 use Rattle.peb_base.specs.declared.table_row.TableRow.{TableRow}
 use Rattle.guard_level.specs.TableLists.{TakesOut, TakesFrom, AreShared}
-use Rattle.guard_level.specs.Guards.{Guards, LiesIn, IsLevel, Takes, IsCopy}
+use Rattle.peb_base.specs.Guards.{LiesIn}
+use Rattle.guard_level.specs.Guards.{Guards, IsLevel, Takes, IsCopy}
 use Rattle.guard_level.proofs.GuardLemmas.{with_tables}
 
 zip_length : {X : Type 0} (R : X → X → Type 0) (xs ys : List X) → AllZip R xs ys → length ys ≡ length xs

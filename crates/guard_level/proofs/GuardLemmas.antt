@@ -13,7 +13,8 @@ use Rattle.peb_base.specs.Keys.{Bytes, key_lt, key_le, key_eq}
 use Rattle.peb_base.specs.KeyLaws.{lt_trans, le_lt}
 use Rattle.peb_base.specs.declared.table_row.TableRow.{TableRow}
 use Rattle.guard_level.proofs.TableLemmas.{same_at}
-use Rattle.guard_level.specs.Guards.{Guards, Ascend, guard_of, tables_of, LiesIn, IsLevel, with_table}
+use Rattle.peb_base.specs.Guards.{Ascend, guard_of, LiesIn}
+use Rattle.guard_level.specs.Guards.{Guards, tables_of, IsLevel, with_table}
 
 -- every key is below another, the same, or above it
 pub above_other : (a b : Bytes) → key_lt a b ≡ false → key_eq a b ≡ false → key_lt b a ≡ true

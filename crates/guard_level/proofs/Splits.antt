@@ -8,7 +8,8 @@ use Rattle.peb_base.specs.Keys.{Bytes, key_lt, key_eq}
 use Rattle.peb_base.specs.KeyLaws.{lt_trans, lt_le_weak, le_lt}
 use Rattle.peb_base.specs.declared.table_row.TableRow.{TableRow}
 use Rattle.guard_level.specs.TableLists.{below, above}
-use Rattle.guard_level.specs.Guards.{Guards, Ascend, guard_of, is_guard, tables_of, LiesIn, IsLevel, IsUncut, split_at}
+use Rattle.peb_base.specs.Guards.{Ascend, guard_of, is_guard, LiesIn}
+use Rattle.guard_level.specs.Guards.{Guards, tables_of, IsLevel, IsUncut, split_at}
 use Rattle.guard_level.proofs.GuardLemmas.{above_other, guard_grows, guard_bound}
 
 differs : (b c : Bool) → (b || c) ≡ false → (b ≡ false) × (c ≡ false)

@@ -2,6 +2,7 @@
 use Rattle.std.specs.Prelude.{◌≡◌, ℕ, suc, true, Bool, false, ◌||◌, if◌then◌else◌, List, [], ◌∷◌, ◌++◌, length, set, get_or}
 use Rattle.std.specs.List.{AllByRecursion, insert}
 use Rattle.peb_base.specs.Keys.{Bytes, key_lt, key_le, key_eq}
+use Rattle.peb_base.specs.Guards.{Ascend, guard_of, is_guard, LiesIn}
 use Rattle.peb_base.specs.declared.entry.Entry.{Entry}
 use Rattle.peb_base.specs.declared.table_row.TableRow.{TableRow}
 use Rattle.guard_level.specs.TableLists.{below, above, TakesFrom, AreShared}
@@ -11,30 +12,9 @@ pub record Guards (T : Type 0) : Type 0 where
   pub keys : List Bytes
   pub tables : List (List T)
 
--- keys that ascend strictly, all above this one
-abbrev pub Ascend : Bytes → List Bytes → Type 0
-Ascend low [] = Unit {0}
-Ascend low (k ∷ ks) = (key_lt low k ≡ true) × Ascend k ks
-
--- the guard of a key: how many guard keys aren't above it, 0 for the sentinel
-abbrev pub guard_of : Bytes → List Bytes → ℕ
-guard_of key [] = 0
-guard_of key (k ∷ ks) = if key_lt key k then 0 else suc (guard_of key ks)
-
--- the key is one of the guard keys
-abbrev pub is_guard : Bytes → List Bytes → Bool
-is_guard key [] = false
-is_guard key (k ∷ ks) = key_eq key k || is_guard key ks
-
 -- the tables of a guard
 abbrev pub tables_of : {T : Type 0} → Guards T → ℕ → List T
 tables_of g guard = get_or g.tables guard []
-
--- the table's keys all belong to this guard
-pub record LiesIn (keys : List Bytes) (guard : ℕ) (row : TableRow) : Type 0 where
-  pub smallest : guard_of row.smallest keys ≡ guard
-  pub largest : guard_of row.largest keys ≡ guard
-  pub ordered : key_le row.smallest row.largest ≡ true
 
 -- guard keys ascend, and each table lies in its guard
 pub record IsLevel {T : Type 0} (row : T → TableRow) (g : Guards T) : Type 0 where

@@ -3,7 +3,8 @@
 ghost use Rattle.std.specs.Prelude.{◌≡◌, ◌≤◌, ℕ, [], ◌∷◌, length, set, get_or, vec_len, vec_capacity, IfOk, OnOk, OnErr, IfErr, IfSome, IfNone};
 ghost use Rattle.std.specs.List.{AllByRecursion, AllZip};
 ghost use Rattle.guard_level.specs.TableLists.{below, above, IsAbsent, TakesFrom, AreShared};
-ghost use Rattle.guard_level.specs.Guards.{Ascend, guard_of, is_guard, tables_of, LiesIn, with_table, cut_at, IsUncut, Takes, IsCopy};
+ghost use Rattle.peb_base.specs.Guards.{Ascend, guard_of, is_guard, LiesIn};
+ghost use Rattle.guard_level.specs.Guards.{tables_of, with_table, cut_at, IsUncut, Takes, IsCopy};
 
 use crate::tables::Tables;
 use peb_base::{Key, Memory, TableLike, is_below};

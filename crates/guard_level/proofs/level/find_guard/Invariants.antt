@@ -1,5 +1,5 @@
 use Rattle.std.proofs.Common.{◌≤◌, ◌-◌, length}
-use Rattle.guard_level.specs.Guards.{guard_of}
+use Rattle.peb_base.specs.Guards.{guard_of}
 use Rattle.guard_level.proofs.level.find_guard.Given as goal
 
 abbrev pub invariant-loop-low : goal.invariant-loop-low

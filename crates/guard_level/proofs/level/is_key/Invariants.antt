@@ -1,5 +1,5 @@
 use Rattle.std.proofs.Common.{◌≡◌, drop}
-use Rattle.guard_level.specs.Guards.{is_guard}
+use Rattle.peb_base.specs.Guards.{is_guard}
 use Rattle.guard_level.proofs.level.is_key.Given as goal
 
 abbrev pub invariant-loop-guard : goal.invariant-loop-guard

@@ -1,6 +1,7 @@
 use Rattle.std.proofs.Common.{◌≡◌, drop, ap, ◌∙◌, subst}
 use Rattle.std.proofs.lemmas.List.{drop_all}
-use Rattle.guard_level.specs.Guards.{IsUncut, guard_of, tables_of}
+use Rattle.peb_base.specs.Guards.{guard_of}
+use Rattle.guard_level.specs.Guards.{IsUncut, tables_of}
 use Rattle.guard_level.proofs.tests.cut.Invariants.{row_of}
 use Rattle.guard_level.proofs.tests.cut.Goals as goal
 

@@ -1,5 +1,6 @@
 use Rattle.std.proofs.Common.{◌≡◌, ◌<◌, ◌-◌, ◌∷◌, length, sym, rules, subst}
-use Rattle.guard_level.specs.Guards.{Guards, guard_of, tables_of, LiesIn, IsLevel}
+use Rattle.peb_base.specs.Guards.{guard_of, LiesIn}
+use Rattle.guard_level.specs.Guards.{Guards, tables_of, IsLevel}
 use Rattle.guard_level.proofs.GuardLemmas.{beside, set_beside, pushed_or_not, pushed_in}
 use Rattle.guard_level.proofs.level.Level.append.Goals as goal
 

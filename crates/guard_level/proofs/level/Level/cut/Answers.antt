@@ -2,7 +2,8 @@ use Rattle.std.proofs.Common.{◌≡◌, ◌∷◌, false, suc, sym, ap, ◌∙�
 use Rattle.std.specs.Prelude.{set}
 use Rattle.std.specs.List.{insert}
 use Rattle.guard_level.specs.TableLists.{below, above}
-use Rattle.guard_level.specs.Guards.{Guards, guard_of, is_guard, tables_of, IsUncut}
+use Rattle.peb_base.specs.Guards.{guard_of, is_guard}
+use Rattle.guard_level.specs.Guards.{Guards, tables_of, IsUncut}
 use Rattle.guard_level.proofs.GuardLemmas.{some_key}
 use Rattle.guard_level.proofs.Splits.{splits}
 use Rattle.guard_level.proofs.level.Level.cut.Goals as goal
