@@ -1,7 +1,7 @@
-pub mod WorkedSamples
-pub mod WorkedTiny
-pub mod WorkedParts
-pub mod WorkedLegal0
-pub mod WorkedLegal1
-pub mod WorkedDeep0
+pub mod Then
+pub mod AgreeTiny
+pub mod AgreeLegal0
+pub mod AgreeLegal1
+pub mod AgreeDeep0
+pub mod Parts
 pub mod Untold

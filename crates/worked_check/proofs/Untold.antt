@@ -9,7 +9,7 @@ use Rattle.flsm_model.specs.Claims.{jobs_conflict}
 use Rattle.flsm_model.specs.Shape.{Record, Shape, empty_shape, shape_of, shape_after}
 use Rattle.flsm_model.specs.Fits.{fits, is_legal_record}
 use Rattle.flsm_model.specs.Events.{base, last_of}
-use Rattle.worked_check.proofs.WorkedSamples.{small, row_of, chosen_key, job_of}
+use Rattle.worked_check.specs.Samples.{small, row_of, chosen_key, job_of}
 
 abbrev s : Shape
 s =

@@ -1,24 +1,20 @@
--- Words for worked histories.
-use Rattle.std.proofs.Common.{ℕ, Bool, List, ◌∷◌, length, Option, Some, None, refl, arith}
+-- Words in which worked histories are written.
+use Rattle.std.specs.Prelude.{ℕ, Bool, List, length, Option, Some, None}
 use Rattle.peb_base.specs.Profiles.{Column, column}
 use Rattle.peb_base.specs.Tables.{first_key, last_key, least_number, greatest_number, raw_length, table_length}
 use Rattle.peb_base.specs.declared.change.Change.TheVariants.{Put, Delete}
 use Rattle.peb_base.specs.declared.op.Op.{Op}
 use Rattle.peb_base.specs.declared.entry.Entry.{Entry}
 use Rattle.peb_base.specs.declared.table_row.TableRow.{TableRow}
-use Rattle.peb_base.specs.declared.profile.Profile.TheVariants.{Small, Normal}
+use Rattle.peb_base.specs.declared.profile.Profile.TheVariants.{Small}
 use Rattle.flsm_model.specs.declared.chosen.Chosen.{Chosen}
 use Rattle.flsm_model.specs.declared.job_kind.JobKind.{JobKind}
 use Rattle.flsm_model.specs.declared.job.Job.{Job}
-use Rattle.flsm_model.specs.Trees.{Describes}
 use Rattle.flsm_model.specs.Events.{Session, Standing}
 use Rattle.flsm_model.specs.Picking.{picked}
 
 abbrev pub small : Column
 small = column Small
-
-abbrev pub normal : Column
-normal = column Normal
 
 abbrev pub put : List ℕ → ℕ → List ℕ → Entry
 put key number value = record { key = key; number = number; change = Put value }
@@ -42,13 +38,6 @@ row_of number level tier smallest largest entries raw first last bytes =
 abbrev pub row : Column → ℕ → ℕ → List Entry → TableRow
 row o number level es = row_of number level 0 (first_key es) (last_key es) (length es) (raw_length es) (least_number es) (greatest_number es) (table_length o es)
 
-pub described : (o : Column) (number level : ℕ) (e : Entry) (es : List Entry) → Describes o (row o number level (e ∷ es)) (e ∷ es)
-described o number level e es =
-    record {
-      tells = record { some = omega arith; smallest = refl; largest = refl; entries = refl; raw = refl; first = refl; last = refl };
-      bytes = refl;
-    }
-
 abbrev pub job_of : JobKind → ℕ → List ℕ → Option (List ℕ) → List ℕ → List (List ℕ) → ℕ → ℕ → Bool → Job
 job_of kind level lo hi inputs keys numbers floor whole =
     record { kind = kind; level = level; lo = lo; hi = hi; inputs = inputs; keys = keys; numbers = numbers; floor = floor; whole = whole }
@@ -59,7 +48,3 @@ due_at o w (Some n) = picked o w n
 
 abbrev pub due_in : Column → Standing → Option Job
 due_in o w = due_at o w w.session
-
-infixr 5 ◌then◌
-abbrev pub ◌then◌ : {A B : Type 0} → A → B → A × B
-◌then◌ first rest = (first, rest)

@@ -4,7 +4,7 @@ use Rattle.peb_base.specs.Entries.{in_order}
 use Rattle.flsm_model.specs.Compaction.{kept, pieces}
 use Rattle.flsm_model.specs.Claims.{jobs_conflict}
 use Rattle.flsm_model.specs.declared.job_kind.JobKind.TheVariants.{Flush as FlushJob, Move as MoveJob, Cut as CutJob, Merge as MergeJob}
-use Rattle.worked_check.proofs.WorkedSamples.{put, del, job_of}
+use Rattle.worked_check.specs.Samples.{put, del, job_of}
 
 kept_same : kept (in_order ((put (97 ∷ []) 3 (49 ∷ [])) ∷ (del (97 ∷ []) 7) ∷ (put (97 ∷ []) 1 (49 ∷ [])) ∷ [])) 3 true
     ∷ kept (in_order ((del (97 ∷ 98 ∷ []) 7) ∷ (del (97 ∷ 98 ∷ []) 2) ∷ (put (97 ∷ []) 4 (49 ∷ [])) ∷ (put (97 ∷ 98 ∷ []) 10 (49 ∷ [])) ∷ [])) 9 false
