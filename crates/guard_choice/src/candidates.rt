@@ -40,10 +40,13 @@ impl Candidates {
         }
     }
 
-    /// Adds copies of the keys that a flush chose, with their levels. A key that was chosen before keeps the shallower level.
-    /// `Memory` changes nothing.
+    /// Adds copies of the keys that a flush chose, with their levels. A key that was chosen before
+    /// keeps the shallower level. `Memory` changes nothing.
     pub fn add(&mut self, chosen: &[Chosen]) -> Result<(), Memory>
-        ensures ok { OnOk result ((level : ℕ) (key : Bytes) → is_candidate self.new level key ≡ (is_candidate self.old level key || is_candidate chosen.now level key)) }
+        ensures ok { OnOk result
+            ((level : ℕ) (key : Bytes)
+            → is_candidate self.new level key
+            ≡ (is_candidate self.old level key || is_candidate chosen.now level key)) }
         ensures err { OnErr result (self.new ≡ self.old) }
     {
         let mut more = copies(*self.chosen.allocator(), chosen)?;
@@ -54,10 +57,13 @@ impl Candidates {
         Ok(())
     }
 
-    /// Copies of the candidates of the level from `lo` on, which is empty for no bound, and below `hi`, if there is one. They
-    /// ascend, and each stands once.
+    /// Copies of the candidates of the level from `lo` on, which is empty for no bound, and below `hi`,
+    /// if there is one. They ascend, and each stands once.
     pub fn in_range(&self, level: u8, lo: &[u8], hi: Option<&Key>) -> Result<Vec<Key>, Memory>
-        ensures keys { IfOk result (λ keys. (key : Bytes) → has_key key keys.items ≡ (is_candidate self.now level key && in_range lo.now (option_copied hi.entry) key)) }
+        ensures keys { IfOk result
+            (λ keys. (key : Bytes)
+            → has_key key keys.items
+            ≡ (is_candidate self.now level key && in_range lo.now (option_copied hi.entry) key)) }
         ensures ascend { IfOk result (λ keys. keys_ascend keys.items ≡ true) }
     {
         let (_, rest) = self.chosen.split_at(place_of(&self.chosen, lo));

@@ -65,7 +65,8 @@ pub fn copies(alloc: Global, chosen: &[Chosen]) -> Result<Vec<Chosen>, Memory>
 
 /// Copies of the keys that were chosen with this level or with a shallower one.
 pub fn keys_to(alloc: Global, chosen: &[Chosen], level: u8) -> Result<Vec<Key>, Memory>
-    ensures { IfOk result (λ keys. keys.items ≡ map (λ c. c.key) (filter (λ c. nat_le c.level level) chosen.now)) }
+    ensures { IfOk result
+        (λ keys. keys.items ≡ map (λ c. c.key) (filter (λ c. nat_le c.level level) chosen.now)) }
 {
     let mut keys = Vec::new(alloc);
     for c in chosen {

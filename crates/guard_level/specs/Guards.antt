@@ -34,7 +34,8 @@ split_at row key g =
     let guard = guard_of key g.keys in
     record {
       keys = insert g.keys guard key;
-      tables = insert (set g.tables guard (below row key (tables_of g guard))) (suc guard) (above row key (tables_of g guard));
+      tables = insert (set g.tables guard (below row key (tables_of g guard))) (suc guard)
+          (above row key (tables_of g guard));
     }
 
 -- a key that is a guard changes nothing
@@ -43,14 +44,18 @@ cut_at row key g = if is_guard key g.keys then g else split_at row key g
 
 -- no table has the key and one below it
 abbrev pub IsUncut : {T : Type 0} → (T → TableRow) → Bytes → List T → Type 0
-IsUncut row key ts = AllByRecursion (λ t. (key_lt (row t).smallest key ≡ true) → key_lt (row t).largest key ≡ true) ts
+IsUncut row key ts =
+    AllByRecursion
+    (λ t. (key_lt (row t).smallest key ≡ true) → key_lt (row t).largest key ≡ true) ts
 
 -- one guard gave a table of this number up
-pub record Takes {T : Type 0} (row : T → TableRow) (number : ℕ) (old : Guards T) (t : T) (new : Guards T) : Type 0 where
+pub record Takes {T : Type 0} (row : T → TableRow) (number : ℕ) (old : Guards T) (t : T)
+    (new : Guards T) : Type 0 where
   pub keys : new.keys ≡ old.keys
   pub tables : TakesFrom row number old.tables t new.tables
 
 -- the same keys, and for each guard tables with the same rows and entries
-pub record IsCopy {T : Type 0} (row : T → TableRow) (holds : T → List Entry → Type 0) (g copy : Guards T) : Type 0 where
+pub record IsCopy {T : Type 0} (row : T → TableRow) (holds : T → List Entry → Type 0)
+    (g copy : Guards T) : Type 0 where
   pub keys : copy.keys ≡ g.keys
   pub tables : (guard : ℕ) → AreShared row holds (tables_of g guard) (tables_of copy guard)

@@ -18,7 +18,8 @@ abbrev pub IsAbsent : {T : Type 0} → (T → TableRow) → ℕ → List T → T
 IsAbsent row number ts = AllByRecursion (λ t. (row t).number ≢ number) ts
 
 -- a table of this number was taken out, and the others stay in their order
-pub record TakesOut {T : Type 0} (row : T → TableRow) (number : ℕ) (old : List T) (t : T) (new : List T) : Type 0 where
+pub record TakesOut {T : Type 0} (row : T → TableRow) (number : ℕ) (old : List T) (t : T)
+    (new : List T) : Type 0 where
   pub before : List T
   pub behind : List T
   pub named : (row t).number ≡ number
@@ -26,15 +27,18 @@ pub record TakesOut {T : Type 0} (row : T → TableRow) (number : ℕ) (old : Li
   pub now : new ≡ before ++ behind
 
 -- one of the lists gave a table of this number up
-pub record TakesFrom {T : Type 0} (row : T → TableRow) (number : ℕ) (old : List (List T)) (t : T) (new : List (List T)) : Type 0 where
+pub record TakesFrom {T : Type 0} (row : T → TableRow) (number : ℕ) (old : List (List T)) (t : T)
+    (new : List (List T)) : Type 0 where
   pub guard : ℕ
   pub rest : List T
   pub out : TakesOut row number (get_or old guard []) t rest
   pub now : new ≡ set old guard rest
 
 -- tables one by one with the same row and entries
-abbrev pub AreShared : {T : Type 0} → (T → TableRow) → (T → List Entry → Type 0) → List T → List T → Type 0
+abbrev pub AreShared : {T : Type 0} → (T → TableRow) → (T → List Entry → Type 0) → List T → List T
+    → Type 0
 AreShared row holds [] [] = Unit {0}
 AreShared row holds [] (u ∷ us) = ⊥
 AreShared row holds (t ∷ ts) [] = ⊥
-AreShared row holds (t ∷ ts) (u ∷ us) = (row u ≡ row t) × ((es : List Entry) → holds u es ↔ holds t es) × AreShared row holds ts us
+AreShared row holds (t ∷ ts) (u ∷ us) =
+    (row u ≡ row t) × ((es : List Entry) → holds u es ↔ holds t es) × AreShared row holds ts us

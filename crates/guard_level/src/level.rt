@@ -13,8 +13,8 @@ use std::marker::Model;
 
 /// The guards of one level by ascending key, each with its tables (PebblesDB, section 3.1).
 ///
-/// The sentinel, guard 0, holds the keys below the first guard key. A guard holds the keys from its own up to the next guard's.
-/// Each table lies in one guard.
+/// The sentinel, guard 0, holds the keys below the first guard key. A guard holds the keys from its own
+/// up to the next guard's. Each table lies in one guard.
 #[derive(Drop)]
 pub struct Level<T: TableLike> {
     alloc: Global,
@@ -29,9 +29,14 @@ impl<T: TableLike> Model for Level<T> {
 
     ghost Value = { Guards T };
 
-    ghost view = { λ level. record { keys = level.keys.items; tables = level.sentinel ∷ level.guards.items } };
+    ghost view = { λ level. record {
+      keys = level.keys.items;
+      tables =
+          level.sentinel ∷ level.guards.items;
+    } };
 
-    ghost invariant = { λ level. IsLevel T.HasRow.the_row (record { keys = level.keys.items; tables = level.sentinel ∷ level.guards.items }) };
+    ghost invariant = { λ level. IsLevel T.HasRow.the_row
+        (record { keys = level.keys.items; tables = level.sentinel ∷ level.guards.items }) };
 }
 
 impl<T: TableLike + Drop> Level<T> {
@@ -64,11 +69,13 @@ impl<T: TableLike + Drop> Level<T> {
         find_guard(&self.keys, key)
     }
 
-    /// Lends the tables of a guard in the order in which they were appended. The guard is at most the number of guard keys.
+    /// Lends the tables of a guard in the order in which they were appended. The
+    /// guard is at most the number of guard keys.
     pub fn tables_of(&self, guard: usize) -> &[T]
         requires { guard ≤ length self.now.keys }
         ensures tables { result.now ≡ tables_of self.now guard }
-        ensures inside { AllByRecursion (λ table. LiesIn self.now.keys guard (T.HasRow.the_row table)) result.now }
+        ensures inside { AllByRecursion
+            (λ table. LiesIn self.now.keys guard (T.HasRow.the_row table)) result.now }
     {
         if guard == 0 {
             return self.sentinel.items();
@@ -80,7 +87,8 @@ impl<T: TableLike + Drop> Level<T> {
     ///
     /// For want of memory it comes back, and nothing changes.
     pub fn append(&mut self, table: T) -> Result<(), T>
-        requires { LiesIn self.old.keys (guard_of (T.HasRow.the_row table).smallest self.old.keys) (T.HasRow.the_row table) }
+        requires { LiesIn self.old.keys (guard_of (T.HasRow.the_row table).smallest self.old.keys)
+            (T.HasRow.the_row table) }
         ensures ok { OnOk result (self.new ≡ with_table T.HasRow.the_row table self.old) }
         ensures err { OnErr result (self.new ≡ self.old) }
         ensures back { IfErr result (λ back. back ≡ table) }
@@ -92,11 +100,14 @@ impl<T: TableLike + Drop> Level<T> {
         self.guards[guard - 1].push(table)
     }
 
-    /// Takes a table of this number out of its guard. None comes exactly where no table has the number, and then nothing changes.
+    /// Takes a table of this number out of its guard. None comes exactly where no table
+    /// has the number, and then nothing changes.
     pub fn take(&mut self, number: u64) -> Option<T>
-        ensures taken { IfSome result (λ table. Takes T.HasRow.the_row number self.old table self.new) }
+        ensures taken { IfSome result
+            (λ table. Takes T.HasRow.the_row number self.old table self.new) }
         ensures none { IfNone result (self.new ≡ self.old) }
-        ensures absent { IfNone result (AllByRecursion (IsAbsent T.HasRow.the_row number) self.old.tables) }
+        ensures absent { IfNone result
+            (AllByRecursion (IsAbsent T.HasRow.the_row number) self.old.tables) }
     {
         match self.sentinel.take(number) {
             Some(table) => Some(table),
@@ -104,7 +115,8 @@ impl<T: TableLike + Drop> Level<T> {
         }
     }
 
-    /// Makes a key a guard: it takes the tables from its own key on from the guard that it lies in, none of which it cuts.
+    /// Makes a key a guard: it takes the tables from its own key on from the guard
+    /// that it lies in, none of which it cuts.
     ///
     /// A key that is a guard changes nothing. For want of memory nothing changes.
     pub fn cut(&mut self, key: Key) -> Result<(), Memory>
@@ -142,9 +154,11 @@ impl<T: TableLike + Drop> Level<T> {
 
 /// Takes the first table of this number out.
 fn take_from<T: TableLike + Drop>(guards: &mut Vec<Tables<T>>, number: u64) -> Option<T>
-    ensures taken { IfSome result (λ table. TakesFrom T.HasRow.the_row number guards.old.items table guards.new.items) }
+    ensures taken { IfSome result
+        (λ table. TakesFrom T.HasRow.the_row number guards.old.items table guards.new.items) }
     ensures none { IfNone result (guards.new.items ≡ guards.old.items) }
-    ensures absent { IfNone result (AllByRecursion (IsAbsent T.HasRow.the_row number) guards.old.items) }
+    ensures absent { IfNone result
+        (AllByRecursion (IsAbsent T.HasRow.the_row number) guards.old.items) }
 {
     for guard in 0..guards.len() {
         if let Some(table) = guards[guard].take(number) {
@@ -176,7 +190,9 @@ fn split_guard<T: TableLike + Drop>(
     requires { guard ≤ vec_len guards.old }
     ensures kept { OnOk result (sentinel.new ∷ guards.new.items
         ≡ set (sentinel.old ∷ guards.old.items) guard (below T.HasRow.the_row key.now (get_or (sentinel.old ∷ guards.old.items) guard []))) }
-    ensures given { IfOk result (λ given. given ≡ above T.HasRow.the_row key.now (get_or (sentinel.old ∷ guards.old.items) guard [])) }
+    ensures given { IfOk result
+        (λ given. given
+        ≡ above T.HasRow.the_row key.now (get_or (sentinel.old ∷ guards.old.items) guard [])) }
     ensures err { OnErr result (sentinel.new ∷ guards.new.items ≡ sentinel.old ∷ guards.old.items) }
     ensures len { vec_len guards.new ≡ vec_len guards.old }
     ensures room { vec_capacity guards.new ≡ vec_capacity guards.old }
@@ -203,7 +219,8 @@ fn share_all<T: TableLike + Drop>(
     alloc: Global,
     guards: &[Tables<T>],
 ) -> Result<Vec<Tables<T>>, Memory>
-    ensures { IfOk result (λ shared. AllZip (AreShared T.HasRow.the_row T.HasRow.holds) guards.now shared.items) }
+    ensures { IfOk result
+        (λ shared. AllZip (AreShared T.HasRow.the_row T.HasRow.holds) guards.now shared.items) }
 {
     let mut shared = Vec::with_capacity(alloc, guards.len())?;
     for tables in guards {

@@ -54,8 +54,10 @@ impl<T: TableLike + Drop> Tables<T> {
 
     /// Takes the first table of this number out.
     pub fn take(&mut self, number: u64) -> Option<T>
-        ensures taken { IfSome result (λ table. TakesOut T.HasRow.the_row number self.old table self.new) }
-        ensures none { IfNone result (IsAbsent T.HasRow.the_row number self.old × (self.new ≡ self.old)) }
+        ensures taken { IfSome result
+            (λ table. TakesOut T.HasRow.the_row number self.old table self.new) }
+        ensures none { IfNone result
+            (IsAbsent T.HasRow.the_row number self.old × (self.new ≡ self.old)) }
     {
         for at in 0..self.items.len() {
             if self.items[at].row().number == number {
@@ -83,7 +85,8 @@ impl<T: TableLike + Drop> Tables<T> {
 
     /// Further handles to all tables.
     pub fn share(&self) -> Result<Tables<T>, Memory>
-        ensures { IfOk result (λ shared. AreShared T.HasRow.the_row T.HasRow.holds self.now shared) }
+        ensures { IfOk result
+            (λ shared. AreShared T.HasRow.the_row T.HasRow.holds self.now shared) }
     {
         let mut items = Vec::with_capacity(self.alloc, self.items.len())?;
         for table in &self.items {

@@ -70,7 +70,9 @@ fn append(
 
 /// Whether a table has the key and one below it.
 fn is_cut(table: &Arc<Bare, Global>, key: &[u8]) -> bool
-    ensures { result ≡ (key_lt (arc_value table.now).row.smallest key.now && not (key_lt (arc_value table.now).row.largest key.now)) }
+    ensures { result ≡
+        (key_lt (arc_value table.now).row.smallest key.now
+        && not (key_lt (arc_value table.now).row.largest key.now)) }
 {
     let row = table.row();
     is_below(row.smallest.bytes(), key) && !is_below(row.largest.bytes(), key)

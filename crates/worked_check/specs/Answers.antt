@@ -71,12 +71,16 @@ pub record Agrees (events : List Event) (a : Answers) : Type 0 where
   pub live : (shape_of small a.edits).live ≡ a.live
   pub contents : map (λ (t : Table). t.entries) (run small begin events).tree.tables ≡ a.contents
   pub shows : shown (all_entries (run small begin events).tree.tables) a.number ≡ a.map_there
-  pub writes : map (λ q. map (λ l. writes_from small a.batches (empty_tree small) q l a.edits) levels) a.numbers
+  pub writes : map (λ q. map
+      (λ l. writes_from small a.batches (empty_tree small) q l a.edits) levels) a.numbers
       ≡ a.writes
-  pub cuts : map (λ q. map (λ l. cuts_from small a.batches (empty_tree small) q l a.edits) levels) a.numbers
+  pub cuts : map (λ q. map
+      (λ l. cuts_from small a.batches (empty_tree small) q l a.edits) levels) a.numbers
       ≡ a.cuts
   pub ledgers : map (ledger a.edits a.shorts) levels ≡ a.ledgers
   pub over : map (over_at small (shape_of small a.edits)) levels ≡ a.over
-  pub due : AllByRecursion (λ (d : Due). due_in small (run small begin (take d.after events)) ≡ d.job) a.due
+  pub due : AllByRecursion
+      (λ (d : Due). due_in small (run small begin (take d.after events)) ≡ d.job) a.due
   pub fitting : AllByRecursion
-      (λ (f : Fitting). map (fits small (shape_of small (take f.after a.edits))) f.edits ≡ f.fit) a.fitting
+      (λ (f : Fitting). map (fits small (shape_of small (take f.after a.edits))) f.edits
+      ≡ f.fit) a.fitting

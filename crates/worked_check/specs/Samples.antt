@@ -33,14 +33,40 @@ chosen_key key level = record { key = key; level = level }
 
 abbrev pub row_of : ℕ → ℕ → ℕ → List ℕ → List ℕ → ℕ → ℕ → ℕ → ℕ → ℕ → TableRow
 row_of number level tier smallest largest entries raw first last bytes =
-    record { number = number; level = level; tier = tier; smallest = smallest; largest = largest; entries = entries; raw = raw; first = first; last = last; bytes = bytes }
+    record {
+      number = number;
+      level = level;
+      tier = tier;
+      smallest = smallest;
+      largest =
+          largest;
+      entries = entries;
+      raw = raw;
+      first = first;
+      last = last;
+      bytes = bytes;
+    }
 
 abbrev pub row : Column → ℕ → ℕ → List Entry → TableRow
-row o number level es = row_of number level 0 (first_key es) (last_key es) (length es) (raw_length es) (least_number es) (greatest_number es) (table_length o es)
+row o number level es =
+    row_of number level 0 (first_key es) (last_key es) (length es) (raw_length es) (least_number es)
+    (greatest_number es) (table_length o es)
 
-abbrev pub job_of : JobKind → ℕ → List ℕ → Option (List ℕ) → List ℕ → List (List ℕ) → ℕ → ℕ → Bool → Job
+abbrev pub job_of : JobKind → ℕ → List ℕ → Option (List ℕ) → List ℕ → List (List ℕ) → ℕ → ℕ → Bool
+    → Job
 job_of kind level lo hi inputs keys numbers floor whole =
-    record { kind = kind; level = level; lo = lo; hi = hi; inputs = inputs; keys = keys; numbers = numbers; floor = floor; whole = whole }
+    record {
+      kind = kind;
+      level = level;
+      lo = lo;
+      hi = hi;
+      inputs = inputs;
+      keys = keys;
+      numbers =
+          numbers;
+      floor = floor;
+      whole = whole;
+    }
 
 abbrev due_at : Column → Standing → Option Session → Option Job
 due_at o w None = None
