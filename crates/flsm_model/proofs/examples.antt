@@ -4,3 +4,4 @@ pub mod ExampleRecords
 pub mod ExampleHistories
 pub mod ExamplePicks
 pub mod Refused
+pub mod ExampleSessions

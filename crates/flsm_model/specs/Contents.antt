@@ -1,5 +1,5 @@
 -- What live tables hold, and how a key is looked up in what entries show.
-use Rattle.std.specs.Prelude.{◌≡◌, ℕ, ◌≤◌, List, Option, Some, None}
+use Rattle.std.specs.Prelude.{◌≡◌, ℕ, ◌≤◌, List, ◌++◌, Option, Some, None}
 use Rattle.peb_base.specs.Keys.{Bytes}
 use Rattle.peb_base.specs.Batches.{entries_of}
 use Rattle.peb_base.specs.Entries.{AreSorted, IsEntry}
@@ -12,25 +12,28 @@ use Rattle.peb_base.specs.declared.change.Change.TheVariants.{Put, Delete}
 use Rattle.peb_base.specs.declared.entry.Entry.{Entry}
 use Rattle.flsm_model.specs.Trees.{Describes, Table, rows_of}
 use Rattle.flsm_model.specs.TrueRecord.{IsNewest}
+use Rattle.flsm_model.specs.Shown.{all_entries, in_memory}
 use Rattle.flsm_model.specs.Events.{Standing}
 
+-- no two of the entries have one number
+abbrev pub NumbersDiffer : List Entry → Type 0
+NumbersDiffer es = (x y : Entry) → IsIn x es → IsIn y es → x.number ≡ y.number → x ≡ y
+
 -- the rows of the tables are the live ones, in their order, each tells of its table, and entries
--- within their limits ascend in each table
+-- within their limits ascend in each table; among tables and memtables a number names one entry
 pub record TablesStand (o : Column) (w : Standing) : Type 0 where
   pub rows : rows_of w.tree.tables ≡ w.tree.shape.live
   pub described : (t : Table) → IsIn t w.tree.tables → Describes o t.row t.entries
   pub sorted :
       ((x : Entry) → IsIn x (entries_of w.batches) → IsEntry x) → (t : Table) → IsIn t w.tree.tables
       → AreSorted t.entries
+  pub differ : NumbersDiffer
+      (all_entries w.tree.tables ++ in_memory w.batches w.tree.shape.to)
 
 -- the value that a change puts
 abbrev pub put_value : Change → Option Bytes
 put_value (Put v) = Some v
 put_value Delete = None
-
--- no two of the entries have one number
-abbrev pub NumbersDiffer : List Entry → Type 0
-NumbersDiffer es = (x y : Entry) → IsIn x es → IsIn y es → x.number ≡ y.number → x ≡ y
 
 -- where numbers differ, a key's value in what entries show at n is that of its newest entry at or
 -- below n, and none where there is no entry

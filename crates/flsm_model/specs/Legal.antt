@@ -1,5 +1,5 @@
 -- Which histories are legal.
-use Rattle.std.specs.Prelude.{◌≡◌, Bool, ℕ, suc, ◌+◌, ◌*◌, ◌^◌, ◌<◌, ◌≤◌, true, List, [], ◌∷◌, length, ◌==◌, Option, Some, None, IsSomeAnd, unwrap_or, ⊤}
+use Rattle.std.specs.Prelude.{◌≡◌, Bool, ℕ, suc, ◌+◌, ◌*◌, ◌^◌, ◌<◌, ◌≤◌, true, ◌&&◌, ◌||◌, not, List, [], ◌∷◌, length, ◌==◌, Option, Some, None, IsSomeAnd, unwrap_or, ⊤}
 use Rattle.peb_base.specs.Batches.{Batches, is_boundary, last_number}
 use Rattle.peb_base.specs.Numbers.{session_of}
 use Rattle.peb_base.specs.Profiles.{column, Column}
@@ -29,6 +29,11 @@ abbrev pub MayStopWith : Column → Standing → Session → Option Edit → Typ
 MayStopWith o w n None = ⊤
 MayStopWith o w n (Some e) = IsOutcomeOfOne o w n (last_running n) e
 
+-- a stop cuts the batches before all, or at the end of one; where contents aren't known also at the
+-- last flush, since batches that were flushed aren't read
+abbrev pub may_cut_at : Standing → ℕ → Bool
+may_cut_at w m = is_boundary m w.batches || (not w.told && m == w.tree.shape.to)
+
 -- how many snapshots an actor holds
 abbrev pub holds_of : ℕ → List (ℕ × ℕ) → ℕ
 holds_of actor held = total (λ h. one_if (h.0 == actor)) held
@@ -51,9 +56,10 @@ AllowedIn o w n (Begin actor job) =
 AllowedIn o w n (Done actor e) =
     (n.faulted ≡ None) × IsSomeAnd (job_of n.running actor) (λ j. IsOutcome o w n j e)
 AllowedIn o w n (Short actor cause bytes) =
-    IsSomeAnd (job_of n.running actor) (λ j. w.told ≡ true → bytes ≤ total (table_length o) (outcome o w n j))
+    IsSomeAnd (job_of n.running actor)
+    (λ j. w.told ≡ true → bytes ≤ total (table_length o) (outcome o w n j))
 AllowedIn o w n JournalFault = n.faulted ≡ None
-AllowedIn o w n (Stop m e) = (is_boundary m w.batches ≡ true) × (n.stable ≤ m) × MayStopWith o w n e
+AllowedIn o w n (Stop m e) = (may_cut_at w m ≡ true) × (n.stable ≤ m) × MayStopWith o w n e
 
 -- what the event needs: an opening comes where no session is open, every other event within one
 abbrev pub Allowed : Column → Standing → Option Session → Event → Type 0

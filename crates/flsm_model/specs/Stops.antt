@@ -1,11 +1,12 @@
 -- What a history and a stop leave.
-use Rattle.std.specs.Prelude.{◌≡◌, ℕ, suc, ◌+◌, ◌*◌, ◌^◌, ◌<◌, ◌≤◌, true, ◌++◌, Some, None}
+use Rattle.std.specs.Prelude.{◌≡◌, ℕ, suc, ◌+◌, ◌*◌, ◌^◌, ◌<◌, ◌≤◌, true, List, ◌∷◌, ◌++◌, map, Some, None}
 use Rattle.peb_base.specs.Profiles.{Column}
 use Rattle.flsm_model.specs.Shape.{Record, shape_of}
 use Rattle.flsm_model.specs.Fits.{is_legal_record}
 use Rattle.flsm_model.specs.Trees.{tree_of}
 use Rattle.flsm_model.specs.TrueRecord.{IsTrueRecord}
-use Rattle.flsm_model.specs.Events.{Opened, Session, Standing}
+use Rattle.flsm_model.specs.declared.edit.Edit.TheVariants.{Open}
+use Rattle.flsm_model.specs.Events.{Opened, Session, Attempt, Standing}
 use Rattle.flsm_model.specs.Legal.{Allowed}
 
 -- the record is true of the batches, and the tree is the one that it spells
@@ -18,10 +19,22 @@ pub record RecordIsLegal (o : Column) (w : Standing) : Type 0 where
   pub legal : is_legal_record o w.edits ≡ true
   pub shape : w.tree.shape ≡ shape_of o w.edits
 
--- the record ends with what the open session added after its opening
+-- the record ends with the session's opening and the edits that it made since; the last attempts are
+-- the jobs that it cut short, each into the level that it wrote
+pub record SessionIsLast (edits : Record) (number : ℕ) (attempts : List Attempt) (n : Session)
+    : Type 0 where
+  pub before : Record
+  pub edited : edits ≡ before ++ Open number n.log ∷ n.edits_made
+  pub earlier : List Attempt
+  pub latest : List Attempt
+  pub attempted : attempts ≡ earlier ++ latest
+  pub levels : map (λ a. a.0) latest ≡ map (λ p. p.0) n.jobs_cut_short
+
+-- so it is of the session that is open
 abbrev pub EndsWithSession : Column → Standing → Type 0
 EndsWithSession o w =
-    (n : Session) → w.session ≡ Some n → (before : Record) × (w.edits ≡ before ++ n.edits_made)
+    (n : Session) → w.session ≡ Some n
+    → SessionIsLast w.edits w.tree.shape.session w.attempts n
 
 -- the next session may be opened, with any log from the last flush's to the session's first
 pub record OpensNext (o : Column) (w : Standing) : Type 0 where

@@ -57,7 +57,8 @@ pub fn law_bound()
 {}
 
 /// The record is legal, and true of the batches where contents are known; the tree is the one that
-/// the record spells. It ends with the edits that the open session made.
+/// the record spells. It ends with the opening of the open session and the edits that it made, and
+/// the last attempts are the jobs that it cut short.
 pub fn law_record()
     ensures legal { AlwaysFormed RecordIsLegal }
     ensures holds { Always RecordIsTrue }
@@ -87,7 +88,9 @@ pub fn law_stays()
     ensures { Always OutcomesStay }
 {}
 
-/// Each live table of a legal record lies in one guard of its level, and no two have one number.
+/// What a legal record leaves: guards ascend and are nested, each live table lies in one guard of
+/// its level, no two have one number, logs and marks lie within the session, and each chosen key
+/// stands at its level.
 pub fn law_shape()
     ensures sound { RecordsSound }
     ensures nested { RecordsNested }
@@ -127,7 +130,8 @@ pub fn law_idle()
 {}
 
 /// The rows of the live tables are the live ones, in their order; each tells of its table, and each
-/// table's entries ascend.
+/// table's entries ascend. Among the entries of tables and memtables, numbers differ, so
+/// [`law_lookup`] speaks of what they show.
 pub fn law_tables()
     ensures { Always TablesStand }
 {}

@@ -20,7 +20,7 @@ use Rattle.flsm_model.proofs.lists.Members.{IsIn}
 use Rattle.flsm_model.proofs.contents.Falls.{after, is_fresh, InFlight}
 use Rattle.flsm_model.proofs.contents.Begin.{row_in}
 use Rattle.flsm_model.proofs.contents.Orders.{Sound}
-use Rattle.flsm_model.proofs.histories.Histories.{Holds, JobsHold, job_in, last_jobs, fresh_rows, within}
+use Rattle.flsm_model.proofs.histories.Histories.{Holds, JobsHold, job_in, last_jobs, fresh_rows, within, cut_at_end}
 use Rattle.flsm_model.proofs.contents.Places.{Placed, Within}
 use Rattle.flsm_model.proofs.contents.Covers.{Live, OneByNumber, one_step, newest_same}
 use Rattle.flsm_model.proofs.contents.Maps.{Flushed}
@@ -278,9 +278,9 @@ shows_step o w (Stop k None) hold pl h a = by w.session a h.session
         record {
           one = h.one;
           levels = h.levels;
-          to_last = to_kept w.batches k w.tree.shape.to pl.ordered x.0 low;
+          to_last = to_kept w.batches k w.tree.shape.to pl.ordered (cut_at_end w k hold.tells x.0) low;
           session = tt;
-          shown = λ m at. same_batches w.tree w.batches (batches_to k w.batches) m (dropped_same w.batches k w.tree.shape.to pl.ordered x.0 low) (h.shown m (elim at [ inl b ↦ inl b | inr b ↦ absurd b ]));
+          shown = λ m at. same_batches w.tree w.batches (batches_to k w.batches) m (dropped_same w.batches k w.tree.shape.to pl.ordered (cut_at_end w k hold.tells x.0) low) (h.shown m (elim at [ inl b ↦ inl b | inr b ↦ absurd b ]));
         }
 shows_step o w (Stop k (Some e)) hold pl h a = by w.session refl a hold.jobs h.session
   where
@@ -294,8 +294,8 @@ shows_step o w (Stop k (Some e)) hold pl h a = by w.session refl a hold.jobs h.s
         record {
           one = one_step o w.batches w.tree e (fresh_rows o w.tree.shape e out.2.formed.fit) (known_tables o w.tree hold.sound) h.one;
           levels = levels_step o w.batches w.tree e out.2.formed.fit h.levels;
-          to_last = to_kept w.batches k (tree_after o w.batches w.tree e).shape.to pl.ordered x.0 low;
+          to_last = to_kept w.batches k (tree_after o w.batches w.tree e).shape.to pl.ordered (cut_at_end w k hold.tells x.0) low;
           session = tt;
-          shown = λ m at. same_batches (tree_after o w.batches w.tree e) w.batches (batches_to k w.batches) m (dropped_same w.batches k (tree_after o w.batches w.tree e).shape.to pl.ordered x.0 low)
+          shown = λ m at. same_batches (tree_after o w.batches w.tree e) w.batches (batches_to k w.batches) m (dropped_same w.batches k (tree_after o w.batches w.tree e).shape.to pl.ordered (cut_at_end w k hold.tells x.0) low)
               (outcome_step o w n (last_running n) x.2.0 out.0 e hold.tells out.2 hold.sound mine out.1 (last_floors n.faulted n.running _ y.floors y.faults) eq h m (inl (elim at [ inl b ↦ b | inr b ↦ absurd b ])));
         }

@@ -1,10 +1,11 @@
 -- Live tables hold entries in their strict order; what entries show at a key.
+use Rattle.flsm_model.specs.Shown.{all_entries, in_memory}
 use Rattle.std.proofs.Common.{◌≡◌, ℕ, ◌<◌, ◌≤◌, true, not, List, [], ◌∷◌, inl, inr, refl, sym, ◌∙◌, ap, subst, arith}
-use Rattle.std.specs.Prelude.{◌==◌, nat_le, filter, None}
+use Rattle.std.specs.Prelude.{◌==◌, nat_le, filter, None, ◌++◌, nat_lt}
 use Rattle.std.proofs.lemmas.Bool.{and_from, or_left, or_right, cases_Bool, eq-eqb, leb-true, le-leb, lt-ltb, cases_lt}
 use Rattle.peb_base.specs.Keys.{Bytes, key_lt, key_eq}
 use Rattle.peb_base.specs.KeyLaws.{same_key}
-use Rattle.peb_base.specs.Batches.{Batches}
+use Rattle.peb_base.specs.Batches.{Batches, entries_of}
 use Rattle.peb_base.specs.Entries.{in_order, comes_before, IsEntry, AscendFrom}
 use Rattle.peb_base.specs.EntryLaws.{after_none}
 use Rattle.peb_base.specs.Members.{IsIn}
@@ -25,12 +26,12 @@ use Rattle.flsm_model.proofs.contents.Covers.{sorted_has}
 use Rattle.flsm_model.proofs.contents.Falls.{after}
 use Rattle.flsm_model.proofs.contents.MapList.{Sourced, sourced_from}
 use Rattle.flsm_model.proofs.lists.Members.{in_sorted}
-use Rattle.flsm_model.proofs.lists.Newest.{first_at, firsts_first, KeysRise, firsts_rise, lookup_puts, Found, Nowhere, At, found_first, Falling, falling_in_order}
+use Rattle.flsm_model.proofs.lists.Newest.{first_at, firsts_first, KeysRise, firsts_rise, lookup_puts, Found, Nowhere, At, found_first, Falling, falling_in_order, same_number, rising_entries}
 use Rattle.flsm_model.proofs.contents.Places.{one_place}
 use Rattle.flsm_model.proofs.contents.Sorts.{Sorted, sorted_in_order, of_step, described}
 use Rattle.flsm_model.proofs.histories.Truth.{All, all_run, all_base}
 use Rattle.flsm_model.proofs.guards.NewRows.{le_ne_lt}
-use Rattle.flsm_model.proofs.lists.Lists.{in_filter, in_kept, each_before-filter}
+use Rattle.flsm_model.proofs.lists.Lists.{in_filter, in_kept, each_before-filter, in_append, in_flat}
 
 -- ---- numbers fall along each key
 
@@ -96,6 +97,13 @@ strict_from k n (e ∷ es) entry so fa one after = (
           absurd (omega (arith, two, copies_here x es i, one x (inr i)))
     ]
 
+-- an entry of a table or of a memtable is one of the batches
+from_batches : (bs : Batches) (t : Tree) (to : ℕ) → Sourced bs t → (x : Entry) → IsIn x (all_entries t.tables ++ in_memory bs to) → IsIn x (entries_of bs)
+from_batches bs t to src x i = elim (in_append x (all_entries t.tables) (in_memory bs to) i) [
+  | inl a ↦ let u = in_flat (λ (v : Table). v.entries) x t.tables a in src.source u.0 x u.1 u.2
+  | inr b ↦ (in_filter (λ (z : Entry). nat_lt to z.number) x (entries_of bs) b).0
+]
+
 pub tables_stand : Always TablesStand
 tables_stand p bs r h base_true legal =
     let o = column p in
@@ -110,6 +118,8 @@ tables_stand p bs r h base_true legal =
       sorted = λ entries t i. strict_from [] 0 t.entries (λ x m. entries x (src.source t x i m)) (al.holds.sound.sorted.sorted t i) (falls t i)
           (λ x m. omega (arith, copies_table x.number t w.tree.tables i, one_place p bs r h base_true legal x.number))
           (λ x m. after_none x (entries x (src.source t x i m)));
+      differ = λ x y i j same. same_number (entries_of w.batches) x y (rising_entries 0 w.batches al.placed.ordered)
+          (from_batches w.batches w.tree w.tree.shape.to src x i) (from_batches w.batches w.tree w.tree.shape.to src y j) same;
     }
 
 -- ---- look-ups
