@@ -1,4 +1,7 @@
 -- How much there is to do until the store is settled.
+use Rattle.flsm_model.specs.declared.job_kind.JobKind.TheVariants.{Flush as FlushJob}
+use Rattle.flsm_model.specs.declared.job.Job.{Job}
+use Rattle.flsm_model.specs.Picking.{picked}
 use Rattle.std.specs.Prelude.{◌≡◌, ℕ, zero, suc, ◌+◌, ◌*◌, ◌<◌, ◌≤◌, true, ◌&&◌, not, if◌then◌else◌, List, [], ◌∷◌, ◌++◌, length, nat_lt, nat_le, ◌==◌, ◌⊎◌, ⊤, Some}
 use Rattle.peb_base.specs.Members.{IsIn}
 use Rattle.peb_base.specs.Profiles.{column, Column}
@@ -12,7 +15,7 @@ use Rattle.flsm_model.specs.Shape.{Record, Shape, rows_numbered, outputs_of, sha
 use Rattle.flsm_model.specs.Fits.{is_guard, is_legal_record}
 use Rattle.flsm_model.specs.Writes.{total, one_if}
 use Rattle.flsm_model.specs.Events.{Session, Standing, Running}
-use Rattle.flsm_model.specs.Outcomes.{frozen_entries, IsOutcome}
+use Rattle.flsm_model.specs.Outcomes.{frozen_entries, IsOutcome, IsFormed}
 
 -- the sum over the numbers up to this one
 abbrev pub sum_to : (ℕ → ℕ) → ℕ → ℕ
@@ -116,3 +119,10 @@ OutcomesConserve o w =
     (n : Session) → w.session ≡ Some n → (r : Running) → IsIn r n.running → (e : Edit)
     → IsOutcome o w n r.1 e
     → entries_in (outputs_of e) ≤ entries_taken w.tree.shape (entries_frozen w n) e
+
+-- each edit that the picked job may make has work, a Flush where it has entries
+abbrev pub PickedHasWork : Column → Standing → Type 0
+PickedHasWork o w =
+    (n : Session) → w.session ≡ Some n → (j : Job) → picked o w n ≡ Some j
+    → (frozen : ℕ) → (j.kind ≡ FlushJob → 0 < frozen)
+    → (e : Edit) → IsFormed o w.tree.shape n j e → HasWork o w.tree.shape frozen e

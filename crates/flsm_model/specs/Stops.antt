@@ -19,8 +19,8 @@ pub record RecordIsLegal (o : Column) (w : Standing) : Type 0 where
   pub legal : is_legal_record o w.edits ≡ true
   pub shape : w.tree.shape ≡ shape_of o w.edits
 
--- the record ends with the session's opening and the edits that it made since; the last attempts are
--- the jobs that it cut short, each into the level that it wrote
+-- the record ends with the session's opening and the edits that it made since; the last attempts
+-- are the jobs that it cut short, each into the level that it wrote
 pub record SessionIsLast (edits : Record) (number : ℕ) (attempts : List Attempt) (n : Session)
     : Type 0 where
   pub before : Record

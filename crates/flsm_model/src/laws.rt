@@ -15,7 +15,7 @@ ghost use Rattle.flsm_model.specs.Undisturbed.{JobsUndisturbed};
 ghost use Rattle.flsm_model.specs.Made.{OutcomesFit, OutcomesStay};
 ghost use Rattle.flsm_model.specs.LastLevel.{WrittenByMerges};
 ghost use Rattle.flsm_model.specs.Fronts.{EmptyIsTrue, FrontsAreLegal, MarksInOrder};
-ghost use Rattle.flsm_model.specs.Settling.{EditsSettle, MeasureFalls, OutcomesConserve};
+ghost use Rattle.flsm_model.specs.Settling.{EditsSettle, MeasureFalls, OutcomesConserve, PickedHasWork};
 ghost use Rattle.flsm_model.specs.Picked.{PickedIsLawful, IdleHasRoom, ChosenAscend, AscendingAreEqual};
 ghost use Rattle.flsm_model.specs.Candidates.{CandidatesMeet};
 ghost use Rattle.flsm_model.specs.Claims.{FreeByClaims};
@@ -111,11 +111,13 @@ pub fn law_marks()
 
 /// An edit that has work, and writes no more entries than it takes, leaves less to do until the
 /// store is settled: fewer levels to go, or else fewer candidates without a guard, or else fewer
-/// tables in the last level. Outcomes write no more than their jobs take.
+/// tables in the last level. Outcomes write no more than their jobs take, and what a picked job
+/// makes has work.
 pub fn law_settles()
     ensures edits { EditsSettle }
     ensures measure { MeasureFalls }
     ensures outcomes { Always OutcomesConserve }
+    ensures picked { AlwaysFormed PickedHasWork }
 {}
 
 /// A job that is picked may begin, if the session has table numbers left for it.

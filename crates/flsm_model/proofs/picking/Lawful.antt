@@ -1,5 +1,10 @@
 -- Each wanted job is one of its kind, so that the one that is picked may begin.
-use Rattle.std.proofs.Common.{nat_le, ◌≡◌, ℕ, zero, suc, ◌+◌, ◌-◌, ◌<◌, ◌≤◌, Bool, true, ◌&&◌, ◌||◌, not, List, [], ◌∷◌, ◌++◌, map, length, inl, inr, refl, sym, ◌∙◌, ap, subst, arith}
+use Rattle.flsm_model.specs.declared.edit.Edit.{Edit}
+use Rattle.peb_base.specs.declared.profile.Profile.{Profile}
+use Rattle.flsm_model.proofs.histories.Undisturb.{EditIs, IsFlushOf, IsMoveOf, IsCutOf, IsMergeOf, edit_is}
+use Rattle.flsm_model.specs.Settling.{HasWork, last_tables, PickedHasWork}
+use Rattle.flsm_model.specs.Writes.{total, one_if}
+use Rattle.std.proofs.Common.{nat_le, ◌≡◌, ℕ, zero, suc, ◌+◌, ◌-◌, ◌<◌, ◌≤◌, Bool, true, false, ◌&&◌, ◌||◌, not, List, [], ◌∷◌, ◌++◌, map, length, inl, inr, refl, sym, ◌∙◌, ap, subst, arith, cond}
 use Rattle.std.specs.Prelude.{◌==◌, nat_lt, filter, Option, Some, None}
 use Rattle.std.specs.List.{list_all}
 use Rattle.std.proofs.lemmas.Bool.{and_parts, and_from, or_left, or_right, cases_Bool, eq-eqb, ltb-true, lt-ltb, leb-true, le-leb, true≢false, cases_lt}
@@ -9,6 +14,8 @@ use Rattle.peb_base.specs.Members.{IsIn}
 use Rattle.peb_base.specs.Profiles.{column, Column}
 use Rattle.peb_base.specs.declared.table_row.TableRow.{TableRow}
 use Rattle.flsm_model.specs.declared.chosen.Chosen.{Chosen}
+use Rattle.flsm_model.specs.declared.job_kind.JobKind.TheVariants.{Flush as FlushJob, Move as MoveJob, Cut as CutJob, Merge as MergeJob}
+use Rattle.peb_base.specs.declared.profile.Profile.TheVariants.{Normal, Small}
 use Rattle.flsm_model.specs.declared.job.Job.{Job}
 use Rattle.flsm_model.specs.Ranges.{in_range, first_of, range_of}
 use Rattle.flsm_model.specs.Shape.{Shape, guards_at, has_number, rows_numbered, rows_without}
@@ -79,6 +86,36 @@ targets o s from (suc count) k i = elim (in_append k (map (λ range. job_at o s 
   | inl here ↦ let x = in_map (λ range. job_at o s (suc from) range (o.last_level - from) (move_job s from range)) (over_at o s from) k here in (from, x.0, omega arith, x.1, x.2)
   | inr deeper ↦ let x = targets o s (suc from) count k deeper in (x.0, x.1, omega (arith, x.2), x.3, x.4)
 ]
+
+-- how many rows of a level a test takes, of all that another one takes
+count_taken : (last : ℕ) (has test : TableRow → Bool) (rs : List TableRow) → ((r : TableRow) → IsIn r rs → test r ≡ true → (has r ≡ true) × ((r.level == last) ≡ true))
+    → length (filter test rs) ≤ total (λ (r : TableRow). one_if (r.level == last)) (filter has rs)
+count_taken last has test [] h = omega arith
+count_taken last has test (r ∷ rs) h = by (test r) (has r) refl refl (count_taken last has test rs (λ x i. h x (inr i)))
+  where
+    by : (a b : Bool) → test r ≡ a → has r ≡ b → length (filter test rs) ≤ total (λ (x : TableRow). one_if (x.level == last)) (filter has rs)
+        → length (cond a (r ∷ filter test rs) (filter test rs)) ≤ total (λ (x : TableRow). one_if (x.level == last)) (cond b (r ∷ filter has rs) (filter has rs))
+    by true true ea eb ih = let one : one_if (r.level == last) ≡ 1 = ap one_if (h r (inl refl) ea).1 in omega (arith, one, ih)
+    by true false ea eb ih = absurd (true≢false (sym (h r (inl refl) ea).0 ∙ eb))
+    by false true ea eb ih = omega (arith, ih)
+    by false false ea eb ih = ih
+
+move_no_merge : MoveJob ≡ MergeJob → ⊥
+move_no_merge e = cc
+
+cut_no_merge : CutJob ≡ MergeJob → ⊥
+cut_no_merge e = cc
+
+flush_no_merge : FlushJob ≡ MergeJob → ⊥
+flush_no_merge e = cc
+
+-- an edit of a job has work, where a Flush has entries and a Merge two tables
+works : (o : Column) (s : Shape) (frozen : ℕ) (j : Job) (e : Edit) → (j.kind ≡ FlushJob → 0 < frozen) → (j.kind ≡ MergeJob → 2 ≤ last_tables o (rows_numbered j.inputs s.live))
+    → EditIs j e → HasWork o s frozen e
+works o s frozen j e flush two (IsFlushOf q row from to log chosen is) = subst (HasWork o s frozen) (sym is) (flush q)
+works o s frozen j e flush two (IsMoveOf q floor outputs is) = subst (HasWork o s frozen) (sym is) tt
+works o s frozen j e flush two (IsCutOf q outputs is) = subst (HasWork o s frozen) (sym is) tt
+works o s frozen j e flush two (IsMergeOf q floor whole outputs is) = subst (HasWork o s frozen) (sym is) (two q)
 
 -- ---- the kinds
 
@@ -330,6 +367,40 @@ module _ (o : Column) (s : Shape) (g : InGuards o s) (sound : IsSound o s) (n : 
         subst (λ z. IsOfKind z.kind o s n (begun z)) (sym x.2) (merge_kind x.0 x.1)
   ]
 
+  -- ---- a Merge that is wanted takes two tables at least
+
+  abbrev pub TakesTwo : Job → Type 0
+  TakesTwo k = k.kind ≡ MergeJob → 2 ≤ last_tables o (rows_numbered k.inputs s.live)
+
+  merge_two : 1 ≤ room_at o o.last_level → (range : Bytes × Option Bytes) → IsIn range (over_at o s o.last_level) → TakesTwo (merge_job o s range)
+  merge_two room range over e =
+      let more = ltb-true (room_at o o.last_level) (length (rows_in s o.last_level range)) (parts o.last_level range over).1 in
+      let all = count_taken o.last_level (λ r. has_number r.number (inputs o.last_level range over)) (at o.last_level range over) s.live
+      (λ r i t. (row_taken s differ (at o.last_level range over) r i t, (and_parts (r.level == o.last_level) (lies_in range r) t).0)) in
+      omega (arith, room, more, all)
+
+  target_two : (level : ℕ) (range : Bytes × Option Bytes) (total at_level : ℕ) (k : Job) → Target o s level range total (move_job s at_level range) k → TakesTwo k
+  target_two level range total at_level k (Moves is none) = subst TakesTwo (sym is) (λ e. absurd (move_no_merge e))
+  target_two level range total at_level k (Cuts c key few here deep is) = subst TakesTwo (sym is) (λ e. absurd (cut_no_merge e))
+
+  flush_two : (f : Option ℕ) (k : Job) → IsIn k (flush_jobs f) → TakesTwo k
+  flush_two None k i = absurd i
+  flush_two (Some to) k i = elim i [ inl is ↦ subst TakesTwo (sym is) (λ e. absurd (flush_no_merge e)) | inr none ↦ absurd none ]
+
+  pub wanted_two : 1 ≤ room_at o o.last_level → (k : Job) → IsIn k (wanted o s n.frozen) → TakesTwo k
+  wanted_two room k i = elim (in_append k (flush_jobs n.frozen ++ target_jobs o s 0 o.last_level) (map (merge_job o s) (over_at o s o.last_level)) i) [
+    | inl first ↦ elim (in_append k (flush_jobs n.frozen) (target_jobs o s 0 o.last_level) first) [
+      | inl flush ↦ flush_two n.frozen k flush
+      | inr other ↦
+          let x = targets o s 0 o.last_level k other in
+          subst TakesTwo (sym x.4)
+          (target_two (suc x.0) x.1 (o.last_level - x.0) x.0 _ (target o s (suc x.0) x.1 (o.last_level - x.0) (o.last_level - x.0) (move_job s x.0 x.1) (omega arith) (λ d a b. absurd (omega (arith, a, b)))))
+    ]
+    | inr last ↦
+        let x = in_map (merge_job o s) (over_at o s o.last_level) k last in
+        subst TakesTwo (sym x.2) (merge_two room x.0 x.1)
+  ]
+
 -- ---- the law
 
 pub picked_is_lawful : AlwaysFormed PickedIsLawful
@@ -347,3 +418,22 @@ picked_is_lawful p told bs r h b legal n eq j is room =
       room = room;
       kind = subst (λ (z : Job). IsOfKind z.kind o w.tree.shape n z) (sym k.2) (wanted_kind o w.tree.shape fm.shape.guards sound n (beginning w n k.0).numbers (beginning w n k.0).floor k.0 k.1);
     }
+
+-- each level has room for a table
+has_room : (p : Profile) → 1 ≤ room_at (column p) (column p).last_level
+has_room Normal = omega arith
+has_room Small = omega arith
+
+pub picked_has_work : AlwaysFormed PickedHasWork
+picked_has_work p told bs r h b legal n eq j is frozen flush e formed =
+    let o = column p in
+    let w : Standing = run o (base told o bs r) h in
+    let s : Shape = w.tree.shape in
+    let fm : Formed o w = formed_always p told bs r h b legal in
+    let sound : IsSound o s = subst (IsSound o) (sym fm.shape.shape) (records_sound p w.edits fm.shape.legal) in
+    let found = find_in (λ k. is_free k n.running) (map (beginning w n) (wanted o s n.frozen)) j is in
+    let k = in_map (beginning w n) (wanted o s n.frozen) j found.0 in
+    let two : j.kind ≡ MergeJob → 2 ≤ last_tables o (rows_numbered j.inputs s.live) =
+    subst (λ (z : Job). z.kind ≡ MergeJob → 2 ≤ last_tables o (rows_numbered z.inputs s.live)) (sym k.2)
+    (wanted_two o s fm.shape.guards sound n (beginning w n k.0).numbers (beginning w n k.0).floor (has_room p) k.0 k.1) in
+    works o s frozen j e flush two (edit_is n j e formed.same)
