@@ -73,6 +73,25 @@ made_stays made old taken is n =
     subst (λ (s : Shelf). StaysOrGoes (joined (gone_by s) (gone_of made)) n (option_or (table_in made.tables.items n) (without (is_gone (gone_by old)) (kept_by old) n)) (without (is_gone (joined (gone_by s) (gone_of made))) (λ m. option_or (table_in made.tables.items m) (kept_by s m)) n))
     (sym is) (stays made (kept_by old) (gone_by old) n)
 
+second : (a b : Bool) → IsTrue (a && b) → IsTrue b
+second true b both = both
+second false b both = absurd cc
+
+-- a number that was begun and not sealed before, or is the maker's, is so after, or was taken away
+pub made_unsealed : (made : Made) (old taken : Shelf) → taken ≡ old → (n : ℕ)
+    → IsTrue (not (is_gone (gone_by old) n) && begun_by old n) ⊎ (made.begun ≡ Some n)
+    → IsTrue (is_gone (joined (gone_by taken) (gone_of made)) n)
+    ⊎ IsTrue (not (is_gone (joined (gone_by taken) (gone_of made)) n) && (is_begun made.begun n || begun_by taken n))
+made_unsealed made old taken is n begun = by (is_gone (joined (gone_by taken) (gone_of made)) n) refl (there begun) where
+  there : IsTrue (not (is_gone (gone_by old) n) && begun_by old n) ⊎ (made.begun ≡ Some n) → (is_begun made.begun n || begun_by taken n) ≡ true
+  there (inl before) = let b : begun_by taken n ≡ true = ap (λ (s : Shelf). begun_by s n) is ∙ second (not (is_gone (gone_by old) n)) (begun_by old n) before in ap (λ b. is_begun made.begun n || b) b ∙ or_true (is_begun made.begun n)
+  there (inr here) = let same : (n == n) ≡ true = grind (arith, nat_tests) in ap (λ b. is_begun b n || begun_by taken n) here ∙ ap (λ b. b || begun_by taken n) same
+
+  by : (lost : Bool) → is_gone (joined (gone_by taken) (gone_of made)) n ≡ lost → (is_begun made.begun n || begun_by taken n) ≡ true
+      → IsTrue lost ⊎ IsTrue (not lost && (is_begun made.begun n || begun_by taken n))
+  by true is so = inl refl
+  by false is so = inr so
+
 begun_here : (begun : Option ℕ) (n : ℕ) → is_begun begun n ≡ true → begun ≡ Some n
 begun_here None n is = cc
 begun_here (Some m) n is = let e : m ≡ n = grind (arith, nat_tests) in ap Some e
@@ -98,10 +117,6 @@ lost_left pick shelf left same n = by (is_done pick n) (is_gone (gone_by shelf) 
   by true true is e = inr (is, e)
   by true false is e = inl e
   by false gone is e = inl e
-
-second : (a b : Bool) → IsTrue (a && b) → IsTrue b
-second true b both = both
-second false b both = absurd cc
 
 -- a number that a crash leaves unsealed was begun and not sealed
 pub left_begun : (pick : Pick) (shelf : Shelf) (left : ℕ → Bool) → ((n : ℕ) → left n ≡ (is_done pick n && (not (is_gone (gone_by shelf) n) && begun_by shelf n)))

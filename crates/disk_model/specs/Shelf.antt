@@ -80,6 +80,8 @@ tally_of stock = record { reads = stock.reads; taken = stock.taken; gone = gone_
 pub there_left : (shelf : Shelf)
     → IsTableImage (kept_by shelf) (gone_by shelf) (files_of shelf).sealed
 there_left shelf n = by (is_gone (gone_by shelf) n) refl where
-  by : (gone : Bool) → is_gone (gone_by shelf) n ≡ gone → (cond gone None (kept_by shelf n) ≡ kept_by shelf n) ⊎ (IsTrue (is_gone (gone_by shelf) n) × (cond gone None (kept_by shelf n) ≡ None))
+  by : (gone : Bool) → is_gone (gone_by shelf) n ≡ gone
+      → (cond gone None (kept_by shelf n) ≡ kept_by shelf n)
+      ⊎ (IsTrue (is_gone (gone_by shelf) n) × (cond gone None (kept_by shelf n) ≡ None))
   by true is = inr (is, refl)
   by false is = inl refl

@@ -2,7 +2,7 @@ ghost use Rattle.std.specs.Prelude.{◌≡◌, ◌⊎◌, ◌≤◌, ◌+◌, �
 ghost use Rattle.std.specs.Option.{option_or};
 ghost use Rattle.disk_model.specs.Directories.{Directories, after_choice, after_opening};
 ghost use Rattle.disk_model.specs.Images.{Image, HasCause};
-ghost use Rattle.disk_model.specs.Tables.{StaysOrGoes, with_maker, capped};
+ghost use Rattle.disk_model.specs.Tables.{StaysOrGoes, is_gone, with_maker, capped};
 ghost use Rattle.disk_model.specs.Told.{JournalTold, TablesTold, TellsTheSame, FilesStay, TablesStay, told_by, after_port, MayLeaveTables};
 ghost use Rattle.disk_model.specs.Ports.{IsNewPort};
 ghost use Rattle.disk_model.specs.Makers.{IsNewMaker};
@@ -118,7 +118,8 @@ pub trait Devices {
     /// Takes a maker back, adds its counts and its numbers, and tells from then on what it sealed.
     ///
     /// A table that no maker which was handed back has retired or removed is there. One that was
-    /// may be there still, or not.
+    /// may be there still, or not. A number that it has begun and not sealed, and each earlier one,
+    /// is listed from then on, unless it was retired or removed.
     fn back_maker(&mut self, maker: Self::M)
         // what it leaves
         ensures kept { IsTrue Self.F.tells → (n : ℕ) →
@@ -129,6 +130,10 @@ pub trait Devices {
             ((tables_told self.old).files.sealed n)) ((tables_told self.new).files.sealed n) }
         ensures unsealed { (n : ℕ) → IsTrue ((tables_told self.new).files.is_unsealed n) →
             IsTrue ((tables_told self.old).files.is_unsealed n) ⊎ (Self.M.begun maker ≡ Some n) }
+        ensures kept_unsealed { IsTrue Self.F.tells → (n : ℕ) →
+            (IsTrue ((tables_told self.old).files.is_unsealed n) ⊎ (Self.M.begun maker ≡ Some n)) →
+            IsTrue (is_gone (tables_told self.new).tally.gone n)
+            ⊎ IsTrue ((tables_told self.new).files.is_unsealed n) }
         ensures done { (tables_told self.new).tally
             ≡ with_maker (Self.M.taken maker) (Self.M.gone maker) (tables_told self.old).tally }
         ensures counted { (tables_told self.new).faults
@@ -140,12 +145,14 @@ pub trait Devices {
         ensures faults { faults self.new ≡ faults self.old };
 
     /// What a crash may leave at this moment is what it might have left since an earlier one.
-    ghost counts_now: { (devices : Self) (t : ℕ) (image : Image) → t ≤ (journal_told devices).moment →
+    ghost counts_now: { (devices : Self) (t : ℕ) (image : Image)
+        → t ≤ (journal_told devices).moment →
         (journal_told devices).may_leave image → (journal_told devices).left_since t image };
 
     /// Since this moment there is no other.
     ghost only_now: { (devices : Self) (image : Image) →
-        (journal_told devices).left_since (journal_told devices).moment image → (journal_told devices).may_leave image };
+        (journal_told devices).left_since (journal_told devices).moment image →
+        (journal_told devices).may_leave image };
 
     /// What is told of the files is one of the images.
     ghost read_is_left: { (devices : Self) → IsTrue Self.J.tells →

@@ -29,7 +29,9 @@ impl Model for Directories {
     ghost view = { λ directories. record {
       chosen = chosen_name directories.choices (string_bytes directories.chosen);
       choices = directories.choices;
-      opened = opened_name directories.opened (chosen_name directories.choices (string_bytes directories.chosen)) (string_bytes directories.earlier);
+      opened = opened_name directories.opened
+          (chosen_name directories.choices (string_bytes directories.chosen))
+          (string_bytes directories.earlier);
       openings = directories.openings;
     } };
 }

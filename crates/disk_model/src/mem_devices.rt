@@ -1,4 +1,4 @@
-ghost use Rattle.std.specs.Prelude.{◌≡◌, ℕ, None, Some, IfOk, false};
+ghost use Rattle.std.specs.Prelude.{◌≡◌, ◌&&◌, ℕ, None, Some, IfOk, false};
 ghost use Rattle.std.specs.Arc.{arc_value};
 ghost use Rattle.std.specs.Option.{option_copied};
 ghost use Rattle.disk_model.specs.declared.pick.Pick.TheVariants.{Old, New};
@@ -6,7 +6,7 @@ ghost use Rattle.disk_model.specs.Directories.{no_directories};
 ghost use Rattle.disk_model.specs.Files.{changed};
 ghost use Rattle.disk_model.specs.Images.{IsAtRest};
 ghost use Rattle.disk_model.specs.Plans.{IsEmptyPlan, AreEmptyPlans};
-ghost use Rattle.disk_model.specs.Shelf.{files_of, kept_by, tally_of, there_left};
+ghost use Rattle.disk_model.specs.Shelf.{files_of, kept_by, tally_of, is_done, there_left};
 ghost use Rattle.disk_model.specs.Tables.{with_table, is_listed};
 ghost use Rattle.disk_model.specs.Told.{TellsTheSame, TablesStay, TablesRest, MayLeaveTables, told_by};
 ghost use Rattle.disk_model.specs.Ports.{IsNewPort};
@@ -115,6 +115,9 @@ impl MemDevices {
             ≡ (⟦<MemDevices as Devices>⟧.tables_told self).kept n) }
         ensures old_unsealed { pick ≡ Old → IfOk result (λ after. (n : ℕ) →
             (⟦<MemDevices as Devices>⟧.tables_told after).files.is_unsealed n ≡ false) }
+        ensures unsealed { IfOk result (λ after. (n : ℕ) →
+            (⟦<MemDevices as Devices>⟧.tables_told after).files.is_unsealed n
+            ≡ (is_done pick n && (⟦<MemDevices as Devices>⟧.tables_told self).files.is_unsealed n)) }
         ensures new_tables { pick ≡ New →
             IfOk result (λ after. (⟦<MemDevices as Devices>⟧.tables_told after).files
             ≡ (⟦<MemDevices as Devices>⟧.tables_told self).files) }
@@ -273,11 +276,14 @@ impl Devices for MemDevices {
 
     ghost directories = { λ d. d.directories };
 
-    ghost counts_now = { λ d t image le now. left_now (image_of d.journal.first.items) (reverse d.journal.past.items) t image now };
+    ghost counts_now = { λ d t image le now. left_now (image_of d.journal.first.items)
+        (reverse d.journal.past.items) t image now };
 
-    ghost only_now = { λ d image left. only_left (image_of d.journal.first.items) (reverse d.journal.past.items) image left };
+    ghost only_now = { λ d image left. only_left (image_of d.journal.first.items)
+        (reverse d.journal.past.items) image left };
 
-    ghost read_is_left = { λ d told. kept_left (image_of d.journal.first.items) (reverse d.journal.past.items) (image_of d.journal.files.items) d.journal.calls d.journal.agrees };
+    ghost read_is_left = { λ d told. kept_left (image_of d.journal.first.items) (reverse d.journal.past.items)
+        (image_of d.journal.files.items) d.journal.calls d.journal.agrees };
 
     ghost there_is_left = { λ d told. record { sealed = there_left d.stock.shelf; unsealed = λ n is. is } };
 

@@ -27,8 +27,11 @@ pub struct MemJournal {
     first: Vec<Stored>,
     past: Vec<Call>,
     files: Vec<Stored>,
-    ghost agrees: { (file : JournalFile) → image_of files.items file ≡ read_after (image_of first.items) (reverse past.items) file } by { Prim.hlevel props },
-    ghost calls: { AreCalls (image_of first.items) (reverse past.items) } by { AreCalls-prop (image_of first.items) (reverse past.items) },
+    ghost agrees: { (file : JournalFile)
+        → image_of files.items file
+        ≡ read_after (image_of first.items) (reverse past.items) file } by { Prim.hlevel props },
+    ghost calls: { AreCalls (image_of first.items) (reverse past.items) } by { AreCalls-prop
+        (image_of first.items) (reverse past.items) },
 }
 
 fn size_in(files: &[Stored], file: JournalFile) -> Option<u64>
@@ -71,11 +74,14 @@ impl Journal for MemJournal {
 
     ghost steady = { λ m. IsEmptyPlan m.turns.plan };
 
-    ghost counts_now = { λ m t image le now. left_now (image_of m.first.items) (reverse m.past.items) t image now };
+    ghost counts_now = { λ m t image le now. left_now (image_of m.first.items)
+        (reverse m.past.items) t image now };
 
-    ghost only_now = { λ m image left. only_left (image_of m.first.items) (reverse m.past.items) image left };
+    ghost only_now = { λ m image left. only_left (image_of m.first.items)
+        (reverse m.past.items) image left };
 
-    ghost read_is_left = { λ m told. kept_left (image_of m.first.items) (reverse m.past.items) (image_of m.files.items) m.calls m.agrees };
+    ghost read_is_left = { λ m told. kept_left (image_of m.first.items) (reverse m.past.items)
+        (image_of m.files.items) m.calls m.agrees };
 
     #[tactic(auto, using(crate::proofs::Kept::follows_same, crate::proofs::Kept::elapses_same))]
     fn size(&mut self, file: JournalFile) -> Result<Option<u64>, Failed> {

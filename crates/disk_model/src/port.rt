@@ -9,8 +9,10 @@ use peb_base::Memory;
 
 /// The device that reads sealed tables.
 ///
-/// It finds those that were sealed when it was made. A port counts its faults and its reads, and is
-/// joined to another or handed back to its devices, so that the counts are kept.
+/// It answers for the files that were there when it was made. A port over real files looks at them
+/// when it is asked: it may find and list a table that was sealed since, and not one that was taken
+/// away since. A port counts its faults and its reads, and is joined to another or handed back to
+/// its devices, so that the counts are kept.
 pub trait Port {
     type File: TableHandle;
 

@@ -90,6 +90,57 @@ fn planned(alloc: Global) -> Result<([bool; 2], [bool; 4]), Fail> {
     Ok((made, found))
 }
 
+/// Which calls of a maker fail, each kind at least once, where the second, the fourth, the eighth
+/// and all later ones are to: and the table that was sealed before.
+fn planned_makes(alloc: Global) -> Result<([bool; 6], Vec<u8>), Fail> {
+    let mut plans = Plans::empty(alloc);
+    plans.maker = FailPlan {
+        calls: vec![in alloc; 2, 4]?,
+        from: Some(8),
+    };
+    let mut devices = MemDevices::new(alloc, plans)?;
+    let mut maker = devices.maker()?;
+    maker.begin(1)?;
+    let first = maker.write(b"a").is_err();
+    maker.write(b"b")?;
+    let second = maker.seal().is_err();
+    maker.begin(1)?;
+    maker.write(b"c")?;
+    let file = maker.seal()?;
+    let failed = [
+        first,
+        second,
+        maker.retire(&file).is_err(),
+        maker.remove(1).is_err(),
+        maker.begin(3).is_err(),
+        maker.retire(&file).is_err(),
+    ];
+    devices.back_maker(maker);
+    Ok((
+        failed,
+        devices.table_bytes(1).unwrap_or(b"none").to_vec(alloc)?,
+    ))
+}
+
+/// Which calls of a port fail, each kind once, where all from the second on are to.
+fn planned_reads(alloc: Global) -> Result<[bool; 4], Fail> {
+    let mut plans = Plans::empty(alloc);
+    plans.port.from = Some(2);
+    let mut devices = MemDevices::new(alloc, plans)?.with_table(1, b"one")?;
+    let mut port = devices.port()?;
+    let found = port.find(1)?;
+    let file = found.ok_or("no table")?;
+    let mut out = [0; 4];
+    let failed = [
+        port.read(&file, 0, &mut out).is_err(),
+        port.list().is_err(),
+        port.find(1).is_err(),
+        port.read(&file, 0, &mut out).is_err(),
+    ];
+    devices.back_port(port);
+    Ok(failed)
+}
+
 #[test]
 fn a_sealed_table_is_found_listed_and_read(rt: HostRuntime) -> Result<(), Fail> {
     let mut devices = written(rt.alloc())?;
@@ -123,6 +174,25 @@ fn the_objects_of_a_kind_share_their_plan(rt: HostRuntime) -> Result<(), Fail> {
     let (made, found) = planned(rt.alloc())?;
     assert_eq!(rt; made, [true, false]);
     assert_eq!(rt; found, [false, false, false, true]);
+    Ok(())
+}
+
+#[test]
+fn each_call_of_a_maker_is_planned(rt: HostRuntime) -> Result<(), Fail> {
+    let (failed, bytes) = planned_makes(rt.alloc())?;
+    assert_eq!(rt; failed, [true; 6]);
+    assert_eq!(rt;
+        bytes.as_slice(),
+        b"c".as_slice(),
+        "sealed, and not taken away"
+    );
+    Ok(())
+}
+
+#[test]
+fn each_call_of_a_port_is_planned(rt: HostRuntime) -> Result<(), Fail> {
+    let failed = planned_reads(rt.alloc())?;
+    assert_eq!(rt; failed, [true; 4]);
     Ok(())
 }
 

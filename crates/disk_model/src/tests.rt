@@ -54,6 +54,45 @@ fn planned(alloc: Global) -> Result<([bool; 5], Vec<u8>), Fail> {
     ))
 }
 
+/// Which calls of the journal fail, each kind once, where all from the second on are to: and the
+/// byte that the read left as it was.
+fn planned_kinds(alloc: Global) -> Result<([bool; 6], u8), Fail> {
+    let mut plans = Plans::empty(alloc);
+    plans.journal.from = Some(2);
+    let mut devices = MemDevices::new(alloc, plans)?;
+    let mut journal = devices.journal()?;
+    let mut out = [7; 1];
+    let failed = [
+        journal.write(LOG, 0, b"a").is_err(),
+        journal.size(LOG).is_err(),
+        journal.read(LOG, 0, &mut out).is_err(),
+        journal.write(LOG, 0, b"b").is_err(),
+        journal.sync(LOG).is_err(),
+        journal.drop_file(LOG).is_err(),
+    ];
+    devices.back(journal);
+    Ok((failed, out[0]))
+}
+
+/// What a crash leaves of two logs, of which the first was synced and both written since.
+fn left_of_two(alloc: Global, pick: Pick) -> Result<(Vec<u8>, Vec<u8>), Fail> {
+    let other = JournalFile::Log(2);
+    let mut devices = written(alloc, true)?;
+    let mut journal = devices.journal()?;
+    journal.write(other, 0, b"two")?;
+    journal.sync(other)?;
+    journal.write(other, 0, b"!")?;
+    journal.sync(LOG)?;
+    journal.write(LOG, 0, b"z")?;
+    devices.back(journal);
+    let devices = devices.crash(pick)?;
+    let first = devices.bytes_of(LOG).unwrap_or(b"none").to_vec(alloc)?;
+    Ok((
+        first,
+        devices.bytes_of(other).unwrap_or(b"none").to_vec(alloc)?,
+    ))
+}
+
 /// The bytes of the log and of a manifest that was planted.
 fn planted(alloc: Global) -> Result<(Vec<u8>, Vec<u8>), Fail> {
     let devices = written(alloc, true)?.with_file(JournalFile::ManifestA, b"m")?;
@@ -67,6 +106,25 @@ fn listed_calls_and_all_from_one_on_fail(rt: HostRuntime) -> Result<(), Fail> {
     let (failed, log) = planned(rt.alloc())?;
     assert_eq!(rt; failed, [false, true, false, false, true]);
     assert_eq!(rt; log.as_slice(), b"abcd".as_slice());
+    Ok(())
+}
+
+#[test]
+fn each_call_of_the_journal_is_planned(rt: HostRuntime) -> Result<(), Fail> {
+    let (failed, read) = planned_kinds(rt.alloc())?;
+    assert_eq!(rt; failed, [false, true, true, true, true, true]);
+    assert_eq!(rt; read, 7, "nothing was read");
+    Ok(())
+}
+
+#[test]
+fn a_crash_takes_of_each_file_its_own_last_sync(rt: HostRuntime) -> Result<(), Fail> {
+    let (first, second) = left_of_two(rt.alloc(), Pick::Old)?;
+    assert_eq!(rt; first.as_slice(), b"xyzd".as_slice());
+    assert_eq!(rt; second.as_slice(), b"two".as_slice());
+    let (first, second) = left_of_two(rt.alloc(), Pick::New)?;
+    assert_eq!(rt; first.as_slice(), b"zyzd".as_slice());
+    assert_eq!(rt; second.as_slice(), b"!wo".as_slice());
     Ok(())
 }
 

@@ -47,12 +47,6 @@ pub fn read_at<F: Read + Seek>(file: &mut F, at: u64, out: &mut [u8]) -> io::Res
     Ok(count)
 }
 
-/// Writes all bytes from place `at` on.
-pub fn write_at<F: Write + Seek>(file: &mut F, at: u64, bytes: &[u8]) -> io::Result<()> {
-    file.seek(SeekFrom::Start(at))?;
-    file.write_all(bytes)
-}
-
 /// Writes all bytes at the file's place, and raises `count` by those written, also where some
 /// aren't.
 pub fn write_counted<F: Write>(file: &mut F, bytes: &[u8], count: &mut usize) -> io::Result<()>
@@ -68,4 +62,11 @@ pub fn write_counted<F: Write>(file: &mut F, bytes: &[u8], count: &mut usize) ->
         *count += more;
     }
     Ok(())
+}
+
+/// Writes all bytes from place `at` on.
+pub fn write_at<F: Write + Seek>(file: &mut F, at: u64, bytes: &[u8]) -> io::Result<()> {
+    file.seek(SeekFrom::Start(at))?;
+    let mut count = 0;
+    write_counted(file, bytes, &mut count)
 }

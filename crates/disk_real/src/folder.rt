@@ -121,9 +121,17 @@ impl<R: Files<File: KeepOut> + AllocGlobal + Clone + Drop> Folder<R> {
         }
     }
 
-    /// Makes the names in the directory stable.
+    /// Makes the names in the directory stable. Once it has failed it always does, for each object
+    /// over the directory.
     pub fn sync_names(&self) -> io::Result<()> {
-        self.sync(".")
+        let answer = self.sync(".");
+        if answer.is_err() {
+            self.shared.has_lost_names.store(true, Ordering::SeqCst);
+        }
+        if self.shared.has_lost_names.load(Ordering::SeqCst) {
+            return Err(io::Error::from(ErrorKind::Other));
+        }
+        answer
     }
 
     /// Syncs a directory by its path from this one. Where this one isn't there, there is none to

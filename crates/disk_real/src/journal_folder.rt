@@ -21,6 +21,12 @@ struct Opened<F> {
     handle: F,
 }
 
+/// Whether a file may be read all the same that couldn't be opened to be written.
+fn is_read_only(error: &io::Error) -> bool {
+    let kind = error.kind();
+    kind == ErrorKind::PermissionDenied || kind == ErrorKind::ReadOnlyFilesystem
+}
+
 /// The files of a journal in their directory.
 ///
 /// It keeps the handle of the file last used, so that a write and a sync open nothing.
@@ -124,16 +130,15 @@ impl<R: Files<File: KeepOut> + AllocGlobal + Clone + Drop> JournalFolder<R> {
         }
     }
 
-    /// Opens a file that may be written, or one that may only be read.
+    /// Opens a file that may be written, or one that may only be read: by its mode, or since the
+    /// whole file system is so.
     fn open_path(&self, path: &str) -> io::Result<R::File> {
         match OpenOptions::new()
             .read(true)
             .write(true)
             .open(&self.folder.rt, path)
         {
-            Err(error) if error.kind() == ErrorKind::PermissionDenied => {
-                File::open(&self.folder.rt, path)
-            }
+            Err(error) if is_read_only(&error) => File::open(&self.folder.rt, path),
             answer => answer,
         }
     }

@@ -5,6 +5,7 @@
 //! the disk, and which calls of the system they make is tested.
 #![tactic(auto)]
 
+mod begun_tables;
 #[cfg(test)]
 mod calls_tests;
 mod faults;

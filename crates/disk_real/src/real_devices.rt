@@ -1,6 +1,6 @@
 //! The devices over a real directory.
 
-ghost use Rattle.std.specs.Prelude.{◌≡◌, ◌≤◌, ℕ, None, Some, true, false, IfOk, string_bytes};
+ghost use Rattle.std.specs.Prelude.{◌≡◌, ◌≤◌, ◌&&◌, ℕ, None, Some, true, false, IfOk, string_bytes};
 ghost use Rattle.disk_model.specs.Directories.{no_directories};
 ghost use Rattle.disk_real.specs.Silent.{nothing_told, no_table_files, silent_journal};
 
@@ -122,6 +122,7 @@ impl<
     R: Files<File: KeepOut + Send + Sync> + Wait + AllocGlobal + Clone + Drop + Send + Sync,
 > Devices for RealDevices<R> {
     ghost use Rattle.disk_real.specs.Gone.{gone_by};
+    ghost use Rattle.disk_model.specs.Told.{TellsTheSame, TablesStay};
 
     type J = RealJournal<R>;
 
@@ -179,7 +180,17 @@ impl<
         self.table_faults.told(maker)
     }
 
-    fn back(&mut self, journal: RealJournal<R>) {
+    fn back(&mut self, journal: RealJournal<R>)
+        // what it leaves
+        ensures told { TellsTheSame (silent_journal journal.faults.count)
+            (silent_journal self.new.journal_faults.count) }
+        ensures trust { self.new.is_trusted ≡ (self.old.is_trusted && journal.is_trusted) }
+        // what stays
+        ensures tables { TablesStay (⟦<RealDevices<R> as Devices>⟧.tables_told self.old)
+            (⟦<RealDevices<R> as Devices>⟧.tables_told self.new) }
+        ensures directories { self.new.directories ≡ self.old.directories }
+        ensures faults { self.new.faults ≡ self.old.faults }
+    {
         self.is_trusted = self.is_trusted && journal.is_trusted;
         self.journal_faults = journal.faults;
     }

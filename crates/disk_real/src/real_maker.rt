@@ -42,6 +42,43 @@ pub struct RealMaker<R: Files<File: KeepOut> + Wait + AllocGlobal + Clone + Drop
     ghost fits: { taken < 2 ^ 64 },
 }
 
+/// Takes a file away that wasn't sealed, durably.
+fn drop_begun<R: Files<File: KeepOut> + Wait + AllocGlobal + Clone + Drop>(
+    folder: &Folder<R>,
+    number: u64,
+) -> io::Result<()> {
+    if folder.remove(FileName::Table(number))? {
+        folder.sync_names()?;
+    }
+    folder.shared.begun.lock(&folder.rt).end(number);
+    Ok(())
+}
+
+/// Keeps that the table of this number is begun. One that is begun already is an error.
+fn keep_begun<R: Files<File: KeepOut> + Wait + AllocGlobal + Clone + Drop>(
+    folder: &Folder<R>,
+    number: u64,
+) -> io::Result<()> {
+    let mut begun = folder.shared.begun.lock(&folder.rt);
+    if begun.has(number) {
+        return Err(io::Error::from(ErrorKind::AlreadyExists));
+    }
+    begun.begin(number)?;
+    Ok(())
+}
+
+/// Makes the file of the table of this number.
+fn create<R: Files<File: KeepOut> + Wait + AllocGlobal + Clone + Drop>(
+    folder: &Folder<R>,
+    number: u64,
+) -> io::Result<R::File> {
+    let path = folder.path_of(FileName::Table(number))?;
+    OpenOptions::new()
+        .write(true)
+        .create_new(true)
+        .open(&folder.rt, path)
+}
+
 /// Takes an earlier file away that wasn't sealed, and makes that of the table of this number.
 fn begin_file<R: Files<File: KeepOut> + Wait + AllocGlobal + Clone + Drop>(
     folder: &Folder<R>,
@@ -51,19 +88,22 @@ fn begin_file<R: Files<File: KeepOut> + Wait + AllocGlobal + Clone + Drop>(
     ensures { IfOk result (λ begun. begun.number ≡ number) }
 {
     if let Some(earlier) = earlier {
-        folder.remove(FileName::Table(earlier.number))?;
+        drop_begun(folder, earlier.number)?;
     }
     folder.make()?;
-    let path = folder.path_of(FileName::Table(number))?;
-    let handle = OpenOptions::new()
-        .write(true)
-        .create_new(true)
-        .open(&folder.rt, path)?;
-    Ok(Begun {
-        number,
-        handle,
-        is_trusted: true,
-    })
+    // No port finds the file from before it is there until it is sealed.
+    keep_begun(folder, number)?;
+    match create(folder, number) {
+        Ok(handle) => Ok(Begun {
+            number,
+            handle,
+            is_trusted: true,
+        }),
+        Err(error) => {
+            folder.shared.begun.lock(&folder.rt).end(number);
+            Err(error)
+        }
+    }
 }
 
 /// Writes all bytes behind the earlier ones, and gives the count of those written also where some
@@ -93,7 +133,9 @@ fn seal_file<R: Files<File: KeepOut> + Wait + AllocGlobal + Clone + Drop>(
     begun.handle.sync_all()?;
     folder.sync_names()?;
     begun.is_trusted = true;
-    Ok(RealTable::new(folder, begun.number)?)
+    let table = RealTable::new(folder, begun.number)?;
+    folder.shared.begun.lock(&folder.rt).end(begun.number);
+    Ok(table)
 }
 
 impl<R: Files<File: KeepOut> + Wait + AllocGlobal + Clone + Drop> RealMaker<R> {

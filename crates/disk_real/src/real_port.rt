@@ -18,6 +18,10 @@ use std::{fs, io};
 const COUNTS: u64 = 1 << 40;
 
 /// The port over real files, `table-S.C` in one directory. It tells nothing of what the files hold.
+///
+/// It looks at the directory when it is asked, so it knows also what was sealed or taken away since
+/// it was made. A table that this opening has begun and not sealed is listed and not found. Whether
+/// a file that an earlier run left was sealed can't be seen: it is found.
 #[derive(Drop)]
 pub struct RealPort<R: Files<File: KeepOut> + Wait + AllocGlobal + Clone + Drop> {
     folder: Folder<R>,
@@ -61,6 +65,9 @@ impl<R: Files<File: KeepOut> + Wait + AllocGlobal + Clone + Drop> RealPort<R> {
         }
         // The handle comes first, so that the file stays from when it was looked for.
         let table = RealTable::new(&self.folder, number)?;
+        if self.folder.shared.begun.lock(&self.folder.rt).has(number) {
+            return Ok(None);
+        }
         match table.look() {
             Ok(()) => Ok(Some(table)),
             Err(error) if error.kind() == ErrorKind::NotFound => Ok(None),

@@ -12,3 +12,6 @@ returns-clause-tables c =
 
 pub returns-clause-new_tables : goal.returns-clause-new_tables
 returns-clause-new_tables c = λ new. rw c.resting.ensures.shelf (c.in_ok-tables.ensures.there new)
+
+pub returns-clause-unsealed : goal.returns-clause-unsealed
+returns-clause-unsealed c = rw c.resting.ensures.shelf c.in_ok-tables.ensures.unsealed
