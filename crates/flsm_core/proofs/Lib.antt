@@ -7,4 +7,5 @@ pub mod At
 pub mod Replays
 pub mod Founds
 pub mod Openings
+pub mod Ranges
 pub mod Touching

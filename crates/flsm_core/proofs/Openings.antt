@@ -120,7 +120,7 @@ kept_more d old new n watched next kept m some within = elim (cases_lt n m) [
 
 -- ---- what an opening rests on
 
-holds_upto : (n : ℕ) (held : List Held) (image new : Image) → ((m : ℕ) → n ≤ m → m ≤ n + length held → new (Log m) ≡ image (Log m)) → HoldsLogs n held image → HoldsLogs n held new
+pub holds_upto : (n : ℕ) (held : List Held) (image new : Image) → ((m : ℕ) → n ≤ m → m ≤ n + length held → new (Log m) ≡ image (Log m)) → HoldsLogs n held image → HoldsLogs n held new
 holds_upto n [] image new same holds = subst (λ b. IsUnfinished b) (sym (same n (omega arith) (omega arith))) holds
 holds_upto n (log ∷ held) image new same holds = (
   subst (λ b. IsLog (Log n) log.header log.groups b) (sym (same n (omega arith) (omega arith))) holds.0,
@@ -226,3 +226,12 @@ by_ok (Err e) P Q R f p = tt
 pub by_err : {T E : Type 0} (r : Result T E) (P : T → Type 0) (Q R : E → Type 0) → ((e : E) → Q e → R e) → MatchResult r P Q → IfErr r R
 by_err (Ok x) P Q R f p = tt
 by_err (Err e) P Q R f p = f e p
+
+-- the same with a fact on either
+pub both_ok : {T E : Type 0} (r : Result T E) (P Q R : T → Type 0) (S : E → Type 0) → ((x : T) → P x → Q x → R x) → IfOk r P → MatchResult r Q S → IfOk r R
+both_ok (Ok x) P Q R S f p q = f x p q
+both_ok (Err e) P Q R S f p q = tt
+
+pub both_err : {T E : Type 0} (r : Result T E) (P R : E → Type 0) (Q : T → Type 0) (S : E → Type 0) → ((e : E) → P e → S e → R e) → IfErr r P → MatchResult r Q S → IfErr r R
+both_err (Ok x) P R Q S f p q = tt
+both_err (Err e) P R Q S f p q = f e p q

@@ -102,6 +102,7 @@ impl<J: Journal> State<J> {
     ghost use Rattle.flsm_core.specs.Opening.{OpensOn, HasRead};
     ghost use Rattle.flsm_core.specs.declared.open_fault.OpenFault.TheVariants as opens;
     ghost use Rattle.flsm_core.specs.Standing.{IsAt};
+    ghost use Rattle.flsm_core.specs.Range.{Range, AreIn, OpenedIn};
     ghost use Rattle.disk_model.specs.declared.journal_file.JournalFile.{JournalFile};
     ghost use Rattle.flsm_core.specs.State.{state_session, state_journal, state_file};
     ghost use Rattle.flsm_core.specs.Touched.{HasTouched, HasTouchedNextLog};
@@ -131,6 +132,11 @@ impl<J: Journal> State<J> {
             → (image : Image) → J.left_since e.1 start.moment image
             → Stands start.profile start.base image) }
         ensures time { IfErr result (λ e. J.moment journal ≤ J.moment e.1) }
+        ensures elapsed { MatchResult result
+            (λ state. Elapses (J.moment journal) (J.moment (state_journal state))
+            (J.left_since journal) (J.left_since (state_journal state)))
+            (λ e. Elapses (J.moment journal) (J.moment e.1)
+            (J.left_since journal) (J.left_since e.1)) }
         ensures next_log { MatchResult result
             (λ state. (state_file state ≡ Log (found.logs + 1))
             × HasTouched J.tells (Log (found.logs + 1)) (told_by J.Journal journal) (told_by J.Journal (state_journal state)))
@@ -164,7 +170,11 @@ impl<J: Journal> State<J> {
     /// The session is 1 + the greatest in a header. `Journal` comes only where the journal failed;
     /// `Damaged` only where a log isn't in its form, or its batches don't go on after those before;
     /// `Profile` only where a log that is read has another profile than the one asked for; `Limit`
-    /// only where no session is left above that of a log that is read, told after `Profile`. A
+    /// only where no session is left above that of a log that is read, told after `Profile`.
+    ///
+    /// Where the images that a crash may leave differ, as after a session whose journal failed, and
+    /// each stands for first batches of some, what is opened is what was read, and every crash after
+    /// the opening leaves it (`within`). A
     /// refusal hands the journal back, and every crash during it and after it leaves the batches
     /// that were there; where the journal didn't fail, it was only read and synced.
     pub fn open(alloc: Global, journal: J, profile: Profile) -> Result<State<J>, (OpenFault, J)>
@@ -176,6 +186,9 @@ impl<J: Journal> State<J> {
             × (IsTrue J.tells → ReadsAs profile base (J.seen journal))
             × IsAt J.Journal state (opened (start_at (told_by J.Journal journal) profile false base))
             × (last_number base < state_session state * 2 ^ 40)) }
+        ensures within { IfOk result (λ state. IsTrue J.tells → (range : Range)
+            → range.profile ≡ profile → AreIn range (J.may_leave journal)
+            → OpenedIn J.Journal state (told_by J.Journal journal) range) }
         ensures session { IfOk result (λ state. IsTrue J.tells → (logs : List Held)
             × HoldsLogs 1 logs (J.seen journal)
             × (state_session state ≡ suc (greatest_session logs))) }
@@ -193,6 +206,9 @@ impl<J: Journal> State<J> {
             → OpensOn profile true base (J.seen journal) (J.may_leave journal)
             → (image : Image) → J.left_since e.1 (J.moment journal) image
             → Stands profile base image) }
+        ensures images_within { IfErr result (λ e. IsTrue J.tells → (range : Range)
+            → range.profile ≡ profile → AreIn range (J.may_leave journal)
+            → AreIn range (J.left_since e.1 (J.moment journal))) }
         ensures time { IfErr result (λ e. J.moment journal ≤ J.moment e.1) }
         ensures next_log { IfOk result (λ state. HasTouchedNextLog J.tells (state_file state)
             (told_by J.Journal journal) (told_by J.Journal (state_journal state))) }

@@ -4,12 +4,13 @@ use Rattle.disk_model.specs.Told.{told_by}
 use Rattle.flsm_core.specs.Logs.{Reads}
 use Rattle.flsm_core.specs.Opening.{AreKept, IsFound, HasWatched}
 use Rattle.flsm_core.specs.Place.{start_at}
+use Rattle.flsm_core.proofs.Ranges.{range_read, range_has_read, range_since, stands_in, leaves_in}
 use Rattle.disk_model.specs.declared.journal_file.JournalFile.{JournalFile}
 use Rattle.disk_model.specs.declared.journal_file.JournalFile.TheVariants.{Log}
 use Rattle.flsm_core.specs.Touched.{HasTouched, touched_on}
 use Rattle.flsm_core.proofs.Held.{holds_end}
 use Rattle.flsm_core.proofs.Touching.{touched_watched}
-use Rattle.flsm_core.proofs.Openings.{Read, same_base, has_read, base_read, if_ok, if_both, if_err, by_ok, by_err}
+use Rattle.flsm_core.proofs.Openings.{Read, same_base, has_read, base_read, if_ok, if_both, if_err, by_ok, by_err, both_ok, both_err}
 use Rattle.flsm_core.proofs.state.State.open.Goals as goal
 
 -- the base is what the reading found, so the start that was asked for is that of what was found
@@ -146,3 +147,69 @@ returns-in-Ok-clause-next_log_err g c = by_err c.begin.result _ _ _ (λ e made.
       },
     ))
     c.begin.ensures.next_log
+
+pub returns-in-Ok-clause-within : goal.returns-in-Ok-clause-within
+returns-in-Ok-clause-within g c = both_ok c.begin.result _ _ _ _ (λ state at time told range asked on.
+    let d = g.J.Journal in
+    let old = c.args.journal in
+    let new = c.read_logs.new.journal in
+    let found = c.in-Ok.ensures.found in
+    let reads : Reads c.args.profile (d.seen old) found.0 found.1 =
+    record { holds = found.3 told; same = found.2.same; spelled = found.2.spelled; ordered = found.2.replay.ordered } in
+    let read : Read d old new c.args.profile found.0 found.1 = record {
+      reads = reads;
+      watched = c.read_logs.ensures.watched;
+      kept = subst (λ (n : ℕ). AreKept d new n) (omega (arith, found.2.count)) c.in-Ok.ensures.kept;
+      counts = λ image left. g.met.J.Journal.counts_now new _ image c.read_logs.ensures.watched.time.later left;
+      read = g.met.J.Journal.read_is_left old told;
+    } in
+    let fin = c.one_reading.ensures.finished in
+    let one = c.one_reading.ensures.one_log in
+    let batch = c.one_batch.ensures in
+    let read_there : Read d old new range.profile found.0 found.1 = subst (λ p. Read d old new p found.0 found.1) (sym asked) read in
+    let inside = range_read fin one batch d old new range found.0 found.1 read_there on in
+    let begun = start_at (told_by d new) range.profile true found.1 in
+    let stands = at begun found.0 asked found.2
+    (range_has_read fin one batch d old new range found.0 found.1 read_there on (g.met.J.Journal.counts_now new) (g.met.J.Journal.only_now new) (g.met.J.Journal.read_is_left new told)) in
+    record {
+      start = begun;
+      profile = refl;
+      sure = refl;
+      enough = inside.enough;
+      within = inside.within;
+      reads = (found.0, read_there.reads);
+      began = c.read_logs.ensures.watched.time.later;
+      counted = c.read_logs.ensures.later;
+      stands = stands;
+      since = range_since fin one batch d old new range found.0 found.1 read_there on state.journal time
+          (λ image left. leaves_in range found.1 image inside (stands.since told refl image left));
+    })
+    c.begin.ensures.stands c.begin.ensures.elapsed
+
+pub returns-in-Ok-clause-images_within : goal.returns-in-Ok-clause-images_within
+returns-in-Ok-clause-images_within g c = both_err c.begin.result _ _ _ _ (λ e images time told range asked on.
+    let d = g.J.Journal in
+    let old = c.args.journal in
+    let new = c.read_logs.new.journal in
+    let found = c.in-Ok.ensures.found in
+    let read : Read d old new c.args.profile found.0 found.1 = record {
+      reads = record { holds = found.3 told; same = found.2.same; spelled = found.2.spelled; ordered = found.2.replay.ordered };
+      watched = c.read_logs.ensures.watched;
+      kept = subst (λ (n : ℕ). AreKept d new n) (omega (arith, found.2.count)) c.in-Ok.ensures.kept;
+      counts = λ image left. g.met.J.Journal.counts_now new _ image c.read_logs.ensures.watched.time.later left;
+      read = g.met.J.Journal.read_is_left old told;
+    } in
+    let fin = c.one_reading.ensures.finished in
+    let one = c.one_reading.ensures.one_log in
+    let batch = c.one_batch.ensures in
+    let read_there : Read d old new range.profile found.0 found.1 = subst (λ p. Read d old new p found.0 found.1) (sym asked) read in
+    let inside = range_read fin one batch d old new range found.0 found.1 read_there on in
+    let begun = start_at (told_by d new) range.profile true found.1 in
+    range_since fin one batch d old new range found.0 found.1 read_there on e.1 time
+    (λ image left. stands_in range found.1 image inside
+    (images told begun found.0 asked refl found.2
+    (range_has_read fin one batch d old new range found.0 found.1 read_there on (g.met.J.Journal.counts_now new) (g.met.J.Journal.only_now new) (g.met.J.Journal.read_is_left new told)) image left)))
+    c.begin.ensures.images c.begin.ensures.elapsed
+
+pub returns-in-Err-clause-images_within : goal.returns-in-Err-clause-images_within
+returns-in-Err-clause-images_within g c = λ told range asked on image left. on image (c.read_logs.ensures.watched.each image left)
