@@ -1,5 +1,7 @@
 //! Which syncs and locks the devices over files ask for: no contract can say it.
 
+ghost use Rattle.std.specs.Prelude.{IsSome};
+
 use crate::faults::Faults;
 use crate::folder::Folder;
 use crate::journal_folder::JournalFolder;
@@ -8,8 +10,9 @@ use crate::real_maker::RealMaker;
 use crate::real_port::RealPort;
 use crate::shared::Shared;
 use crate::watched::{Seen, Watched};
-use disk_model::{Journal, JournalFile, Maker, Port};
-use std::alloc::Global;
+use disk_model::{Failed, Journal, JournalFile, Maker, Port};
+use std::alloc::{AllocError, Global};
+use std::io::ErrorKind;
 use std::rc::Rc;
 use std::sync::{Arc, Wait};
 use std::test::Fail;
@@ -19,89 +22,179 @@ const LOG: JournalFile = JournalFile::Log(1);
 /// The number of table 1.1.
 const TABLE: u64 = (1 << 40) + 1;
 
+/// A call on the journal, or what becomes of the file system before the next one.
+#[derive(Clone, Copy)]
+enum Step {
+    Size,
+    Read,
+    Write,
+    Sync,
+    Drop,
+    FailSyncs(bool),
+    FailFolderSyncs(bool),
+    Interrupt,
+    MakeFolder,
+    MakeFile,
+    Forbid(ErrorKind),
+}
+
+/// What is there at first.
+#[derive(Clone, Copy, PartialEq, Eq)]
+enum First {
+    Nothing,
+    Folder,
+    File,
+    Taken,
+}
+
+/// What eight steps told: which were Ok, and the syncs so far of the file, of its directory and of
+/// the directory's parent; and at the end whether the file is there, and the count of faults.
+#[derive(Clone, Copy)]
+struct Told {
+    ok: [bool; 8],
+    syncs: [(u8, u8, u8); 8],
+    has_file: bool,
+    faults: u64,
+}
+
+fn seen_at(alloc: Global, first: First) -> Result<Rc<Seen>, AllocError> {
+    let seen = Seen::nothing();
+    seen.has_folder
+        .set(first == First::Folder || first == First::File);
+    seen.has_file.set(first == First::File);
+    seen.is_taken.set(first == First::Taken);
+    Ok(Rc::new(alloc, seen)?)
+}
+
 /// An opening of the watched directory.
 fn folder_over<W: Wait + Clone + Drop>(
     rt: W,
     alloc: Global,
     seen: &Rc<Seen>,
-) -> Result<Folder<Watched<W>>, Fail> {
+) -> Result<Folder<Watched<W>>, AllocError> {
     let seen = seen.clone()?;
     let shared = Arc::new(alloc, Shared::new(alloc))?;
     let name = String::from_str(alloc, "d")?;
     Ok(Folder::new(Watched { rt, alloc, seen }, name, shared))
 }
 
-fn journal_over<W: Wait + Clone + Drop>(
-    rt: W,
-    alloc: Global,
-    seen: &Rc<Seen>,
-) -> Result<RealJournal<Watched<W>>, Fail> {
-    let folder = folder_over(rt, alloc, seen)?;
-    folder.keep_others_out()?;
-    let files = JournalFolder::new(folder);
-    Ok(RealJournal::new(files, true, Faults::none()))
+fn journal_over<W: Wait + Clone + Drop>(folder: Folder<Watched<W>>) -> RealJournal<Watched<W>> {
+    RealJournal::new(JournalFolder::new(folder), true, Faults::none())
+}
+
+/// Lets this happen, unless it is a call.
+fn happens(seen: &Seen, step: Step) -> bool {
+    match step {
+        Step::FailSyncs(fails) => seen.fails_syncs.set(fails),
+        Step::FailFolderSyncs(fails) => seen.fails_folder_syncs.set(fails),
+        Step::Interrupt => seen.is_interrupted.set(true),
+        Step::MakeFolder => seen.has_folder.set(true),
+        Step::MakeFile => seen.has_file.set(true),
+        Step::Forbid(kind) => seen.read_only.set(Some(kind)),
+        _ => return false,
+    }
+    true
+}
+
+/// Takes a step, and says whether it was Ok.
+fn take<J: Journal>(journal: &mut J, seen: &Seen, step: Step) -> bool {
+    let mut out = [0; 4];
+    match step {
+        Step::Size => journal.size(LOG).is_ok(),
+        Step::Read => journal.read(LOG, 0, &mut out).is_ok(),
+        Step::Write => journal.write(LOG, 0, b"a").is_ok(),
+        Step::Sync => journal.sync(LOG).is_ok(),
+        Step::Drop => journal.drop_file(LOG).is_ok(),
+        other => happens(seen, other),
+    }
+}
+
+/// Takes the first eight of these steps.
+fn take_all<W: Wait + Clone + Drop>(
+    journal: &mut RealJournal<Watched<W>>,
+    seen: &Seen,
+    steps: &[Step],
+) -> Told {
+    let mut told = Told {
+        ok: [false; 8],
+        syncs: [(0, 0, 0); 8],
+        has_file: false,
+        faults: 0,
+    };
+    for i in 0..8 {
+        if i < steps.len() {
+            told.ok[i] = take(journal, seen, steps[i]);
+            told.syncs[i] = seen.syncs();
+        }
+    }
+    told.has_file = seen.has_file.get();
+    told.faults = journal.faults.count;
+    told
+}
+
+/// What steps on the journal of a new opening told.
+fn steps_of(rt: HostRuntime, first: First, steps: &[Step]) -> Result<Told, Fail> {
+    let alloc = rt.alloc();
+    let seen = seen_at(alloc, first)?;
+    let folder = folder_over(rt, alloc, &seen)?;
+    let _ = folder.keep_others_out();
+    let mut journal = journal_over(folder);
+    Ok(take_all(&mut journal, &seen, steps))
 }
 
 #[test]
 fn names_are_synced_with_files(rt: HostRuntime) -> Result<(), Fail> {
-    let seen = Rc::new(rt.alloc(), Seen::nothing())?;
-    let mut journal = journal_over(rt, rt.alloc(), &seen)?;
-    journal.sync(LOG)?;
-    let absent = seen.syncs();
-    journal.write(LOG, 0, b"a")?;
-    let made = seen.syncs();
-    journal.sync(LOG)?;
-    let new = seen.syncs();
-    journal.sync(LOG)?;
-    let old = seen.syncs();
-    journal.drop_file(LOG)?;
-    let gone = seen.syncs();
-    journal.drop_file(LOG)?;
-    journal.sync(LOG)?;
-    assert_eq!(rt; absent, (0, 0, 0), "nothing is there");
-    assert_eq!(rt; made, (0, 0, 1), "a new directory");
-    assert_eq!(rt; new, (1, 1, 1), "a new file");
-    assert_eq!(rt; old, (2, 1, 1), "an old file");
-    assert_eq!(rt; gone, (2, 2, 1), "a file that is gone");
-    assert_eq!(rt; seen.syncs(), (2, 2, 1), "a file that was gone");
+    let steps = [
+        Step::Sync,
+        Step::Write,
+        Step::Sync,
+        Step::Sync,
+        Step::Drop,
+        Step::Drop,
+        Step::Sync,
+    ];
+    let told = steps_of(rt, First::Nothing, &steps)?;
+    assert_eq!(rt; told.ok, [true, true, true, true, true, true, true, false]);
+    assert_eq!(rt; told.syncs[0], (0, 0, 0), "nothing is there");
+    assert_eq!(rt; told.syncs[1], (0, 0, 1), "a new directory");
+    assert_eq!(rt; told.syncs[2], (1, 1, 1), "a new file");
+    assert_eq!(rt; told.syncs[3], (2, 1, 1), "an old file");
+    assert_eq!(rt; told.syncs[4], (2, 2, 1), "a file that is gone");
+    assert_eq!(rt; told.syncs[6], (2, 2, 1), "a file that was gone");
     Ok(())
 }
 
 #[test]
 fn names_of_an_earlier_run_are_synced(rt: HostRuntime) -> Result<(), Fail> {
-    let seen = Rc::new(rt.alloc(), Seen::nothing())?;
-    seen.has_folder.set(true);
-    let mut first = journal_over(rt, rt.alloc(), &seen)?;
-    first.sync(LOG)?;
-    let absent = seen.syncs();
-    first.write(LOG, 0, b"a")?;
-    let made = seen.syncs();
-    let mut second = journal_over(rt, rt.alloc(), &seen)?;
-    second.sync(LOG)?;
-    second.write(LOG, 0, b"b")?;
-    assert_eq!(rt; absent, (0, 1, 0), "an absent file");
+    let first = steps_of(rt, First::Folder, &[Step::Sync, Step::Write])?;
+    let second = steps_of(rt, First::File, &[Step::Sync, Step::Write])?;
+    assert_eq!(rt; first.syncs[0], (0, 1, 0), "an absent file");
     assert_eq!(rt;
-        made,
+        first.syncs[1],
         (0, 1, 1),
         "the first file of a directory that was there"
     );
-    assert_eq!(rt; seen.syncs(), (1, 2, 1), "a file that was there");
+    assert_eq!(rt; second.syncs[1], (1, 1, 0), "a file that was there");
     Ok(())
 }
 
 #[test]
 fn no_sync_after_a_failed_one_is_trusted(rt: HostRuntime) -> Result<(), Fail> {
-    let seen = Rc::new(rt.alloc(), Seen::nothing())?;
-    let mut journal = journal_over(rt, rt.alloc(), &seen)?;
-    journal.write(LOG, 0, b"a")?;
-    seen.fails_syncs.set(true);
-    let failed = journal.sync(LOG).is_err();
-    seen.fails_syncs.set(false);
-    let again = journal.sync(LOG).is_err();
-    let dropped = journal.drop_file(LOG).is_err();
-    assert!(rt; failed && again && dropped);
-    assert_eq!(rt; journal.faults.count, 3);
-    assert!(rt; seen.has_file.get());
+    let steps = [
+        Step::Write,
+        Step::FailSyncs(true),
+        Step::Sync,
+        Step::FailSyncs(false),
+        Step::Sync,
+        Step::Drop,
+    ];
+    let told = steps_of(rt, First::Nothing, &steps)?;
+    assert_eq!(rt;
+        told.ok,
+        [true, true, false, true, false, false, false, false]
+    );
+    assert_eq!(rt; told.faults, 3);
+    assert!(rt; told.has_file);
     Ok(())
 }
 
@@ -109,155 +202,307 @@ fn no_sync_after_a_failed_one_is_trusted(rt: HostRuntime) -> Result<(), Fail> {
 fn no_file_is_made_where_the_name_of_its_directory_is_not_stable(
     rt: HostRuntime,
 ) -> Result<(), Fail> {
-    let seen = Rc::new(rt.alloc(), Seen::nothing())?;
-    let mut journal = journal_over(rt, rt.alloc(), &seen)?;
-    seen.fails_syncs.set(true);
-    let failed = journal.write(LOG, 0, b"a").is_err();
-    seen.fails_syncs.set(false);
-    let again = journal.write(LOG, 0, b"a").is_err();
-    assert!(rt; failed && again);
-    assert!(rt; !seen.has_file.get());
-    Ok(())
-}
-
-#[test]
-fn a_table_is_sealed_by_syncs_of_its_file_and_its_name(rt: HostRuntime) -> Result<(), Fail> {
-    let seen = Rc::new(rt.alloc(), Seen::nothing())?;
-    let folder = folder_over(rt, rt.alloc(), &seen)?;
-    let mut maker = RealMaker::new(folder)?;
-    maker.begin(TABLE)?;
-    maker.write(b"one")?;
-    let written = seen.syncs();
-    drop(maker.seal()?);
-    assert_eq!(rt; written, (0, 0, 1));
-    assert_eq!(rt; seen.syncs(), (1, 1, 1));
-    Ok(())
-}
-
-#[test]
-fn no_table_is_sealed_after_a_failed_sync(rt: HostRuntime) -> Result<(), Fail> {
-    let seen = Rc::new(rt.alloc(), Seen::nothing())?;
-    let folder = folder_over(rt, rt.alloc(), &seen)?;
-    let mut maker = RealMaker::new(folder)?;
-    maker.begin(TABLE)?;
-    seen.fails_syncs.set(true);
-    let Err(_) = maker.seal() else {
-        return Err(Fail::from("sealed without a sync"));
-    };
-    seen.fails_syncs.set(false);
-    let again = maker.seal().is_err();
-    assert!(rt; again);
-    assert_eq!(rt; maker.faults.count, 2);
-    assert_eq!(rt; seen.syncs(), (0, 0, 1));
+    let steps = [
+        Step::FailSyncs(true),
+        Step::Write,
+        Step::FailSyncs(false),
+        Step::Write,
+    ];
+    let told = steps_of(rt, First::Nothing, &steps)?;
+    assert_eq!(rt;
+        told.ok,
+        [true, false, true, false, false, false, false, false]
+    );
+    assert!(rt; !told.has_file);
     Ok(())
 }
 
 #[test]
 fn a_directory_in_use_is_not_opened_and_not_made(rt: HostRuntime) -> Result<(), Fail> {
-    let seen = Rc::new(rt.alloc(), Seen::nothing())?;
-    seen.is_taken.set(true);
-    let mut journal = journal_over(rt, rt.alloc(), &seen)?;
-    let made = journal.write(LOG, 0, b"a").is_err();
-    let folder = folder_over(rt, rt.alloc(), &seen)?;
-    let opened = folder.keep_others_out().is_err();
-    assert!(rt; made && opened);
-    assert!(rt; !seen.has_file.get());
+    let alloc = rt.alloc();
+    let told = steps_of(rt, First::Taken, &[Step::Write])?;
+    let opened = is_opened(rt, alloc)?;
+    assert!(rt; !told.ok[0] && !opened);
+    assert!(rt; !told.has_file);
     Ok(())
+}
+
+/// Whether a directory is opened in which another is.
+fn is_opened(rt: HostRuntime, alloc: Global) -> Result<bool, Fail> {
+    let seen = seen_at(alloc, First::Taken)?;
+    seen.has_folder.set(true);
+    let folder = folder_over(rt, alloc, &seen)?;
+    Ok(folder.keep_others_out().is_ok())
 }
 
 #[test]
 fn a_directory_that_another_made_meanwhile_is_left_alone(rt: HostRuntime) -> Result<(), Fail> {
-    let seen = Rc::new(rt.alloc(), Seen::nothing())?;
-    let mut journal = journal_over(rt, rt.alloc(), &seen)?;
-    seen.has_folder.set(true);
-    let made = journal.write(LOG, 0, b"a").is_err();
-    let file = seen.has_file.get();
-    seen.has_file.set(true);
-    let written = journal.write(LOG, 0, b"a").is_err();
-    assert!(rt; made && written && !file);
-    Ok(())
-}
-
-#[test]
-fn names_that_are_no_tables_are_skipped(rt: HostRuntime) -> Result<(), Fail> {
-    let seen = Rc::new(rt.alloc(), Seen::nothing())?;
-    seen.has_folder.set(true);
-    let folder = folder_over(rt, rt.alloc(), &seen)?;
-    folder.keep_others_out()?;
-    let mut port = RealPort::new(folder);
-    let numbers = port.list()?;
-    assert_eq!(rt; numbers.as_slice(), [TABLE, TABLE + 1].as_slice());
+    let early = steps_of(rt, First::Nothing, &[Step::MakeFolder, Step::Write])?;
+    let steps = [
+        Step::MakeFolder,
+        Step::MakeFile,
+        Step::Write,
+        Step::Size,
+        Step::Drop,
+    ];
+    let told = steps_of(rt, First::Nothing, &steps)?;
+    assert!(rt; !early.ok[1] && !early.has_file);
+    assert!(rt; !told.ok[2] && told.has_file);
     Ok(())
 }
 
 #[test]
 fn a_log_that_may_only_be_read_is_read(rt: HostRuntime) -> Result<(), Fail> {
-    let seen = Rc::new(rt.alloc(), Seen::nothing())?;
-    seen.has_folder.set(true);
-    seen.has_file.set(true);
-    seen.is_read_only.set(true);
-    let mut journal = journal_over(rt, rt.alloc(), &seen)?;
-    let size = journal.size(LOG)?;
-    assert_eq!(rt; size, Some(0));
+    let by_mode = [
+        Step::Forbid(ErrorKind::PermissionDenied),
+        Step::Size,
+        Step::Read,
+        Step::Write,
+    ];
+    let told = steps_of(rt, First::File, &by_mode)?;
+    assert_eq!(rt;
+        told.ok,
+        [true, true, true, false, false, false, false, false]
+    );
+    assert_eq!(rt; told.faults, 1);
+    Ok(())
+}
+
+#[test]
+fn a_log_on_a_read_only_file_system_is_read(rt: HostRuntime) -> Result<(), Fail> {
+    let opened_so = [
+        Step::Forbid(ErrorKind::ReadOnlyFilesystem),
+        Step::Size,
+        Step::Read,
+        Step::Write,
+    ];
+    let told = steps_of(rt, First::File, &opened_so)?;
+    let meanwhile = [
+        Step::Write,
+        Step::Forbid(ErrorKind::ReadOnlyFilesystem),
+        Step::Write,
+        Step::Read,
+    ];
+    let later = steps_of(rt, First::File, &meanwhile)?;
+    assert_eq!(rt;
+        told.ok,
+        [true, true, true, false, false, false, false, false]
+    );
+    assert_eq!(rt;
+        later.ok,
+        [true, true, false, true, false, false, false, false]
+    );
+    assert_eq!(rt; (told.faults, later.faults), (1, 1));
     Ok(())
 }
 
 #[test]
 fn a_read_and_a_write_go_on_after_a_signal(rt: HostRuntime) -> Result<(), Fail> {
-    let seen = Rc::new(rt.alloc(), Seen::nothing())?;
-    let folder = folder_over(rt, rt.alloc(), &seen)?;
-    let mut maker = RealMaker::new(folder)?;
-    maker.begin(TABLE)?;
-    seen.is_interrupted.set(true);
-    maker.write(b"one")?;
-    let mut journal = journal_over(rt, rt.alloc(), &seen)?;
-    journal.write(LOG, 0, b"a")?;
-    seen.is_interrupted.set(true);
-    let mut out = [0; 4];
-    let count = journal.read(LOG, 0, &mut out)?;
-    assert_eq!(rt; (maker.taken(), count), (3, 0));
+    let steps = [
+        Step::Write,
+        Step::Interrupt,
+        Step::Write,
+        Step::Interrupt,
+        Step::Read,
+    ];
+    let told = steps_of(rt, First::Nothing, &steps)?;
+    let table = sealed_after(rt, Step::Interrupt)?;
+    assert_eq!(rt;
+        told.ok,
+        [true, true, true, true, true, false, false, false]
+    );
+    assert_eq!(rt; told.faults, 0);
+    assert_eq!(rt; (table.taken, table.faults), (3, 0));
     Ok(())
 }
 
 #[test]
 fn a_new_log_whose_name_was_not_synced_is_not_stable(rt: HostRuntime) -> Result<(), Fail> {
-    let seen = Rc::new(rt.alloc(), Seen::nothing())?;
-    let mut journal = journal_over(rt, rt.alloc(), &seen)?;
-    journal.write(LOG, 0, b"a")?;
-    seen.fails_folder_syncs.set(true);
-    let failed = journal.sync(LOG).is_err();
-    seen.fails_folder_syncs.set(false);
-    let again = journal.sync(LOG).is_err();
-    assert!(rt; failed && again);
+    let steps = [
+        Step::Write,
+        Step::FailFolderSyncs(true),
+        Step::Sync,
+        Step::FailFolderSyncs(false),
+        Step::Sync,
+    ];
+    let told = steps_of(rt, First::Nothing, &steps)?;
+    assert_eq!(rt;
+        told.ok,
+        [true, true, false, true, false, false, false, false]
+    );
     Ok(())
 }
 
 #[test]
 fn no_sync_after_a_failed_removal_is_trusted(rt: HostRuntime) -> Result<(), Fail> {
-    let seen = Rc::new(rt.alloc(), Seen::nothing())?;
-    let mut journal = journal_over(rt, rt.alloc(), &seen)?;
-    journal.write(LOG, 0, b"a")?;
-    journal.sync(LOG)?;
-    seen.fails_folder_syncs.set(true);
-    let failed = journal.drop_file(LOG).is_err();
-    seen.fails_folder_syncs.set(false);
-    let again = journal.drop_file(LOG).is_err();
-    let synced = journal.sync(LOG).is_err();
-    assert!(rt; failed && again && synced);
+    let steps = [
+        Step::Write,
+        Step::Sync,
+        Step::FailFolderSyncs(true),
+        Step::Drop,
+        Step::FailFolderSyncs(false),
+        Step::Drop,
+        Step::Sync,
+    ];
+    let told = steps_of(rt, First::Nothing, &steps)?;
+    assert_eq!(rt;
+        told.ok,
+        [true, true, true, false, true, false, false, false]
+    );
+    Ok(())
+}
+
+/// What the making of a table told: whether it was sealed, and where it wasn't, whether it was when
+/// that was asked again; the syncs before and after, the bytes taken and the count of faults.
+#[derive(Clone, Copy)]
+struct Sealed {
+    is_sealed: bool,
+    again: bool,
+    before: (u8, u8, u8),
+    after: (u8, u8, u8),
+    taken: u64,
+    faults: u64,
+}
+
+/// Seals what is begun, and asks again where that failed, once syncs work.
+fn seal_twice<M: Maker>(maker: &mut M, seen: &Seen) -> (bool, bool)
+    requires { IsSome (M.begun maker.old) }
+{
+    match maker.seal() {
+        Ok(table) => {
+            drop(table);
+            (true, false)
+        }
+        Err(_) => {
+            seen.fails_syncs.set(false);
+            seen.fails_folder_syncs.set(false);
+            (false, maker.seal().is_ok())
+        }
+    }
+}
+
+/// Writes a table and seals it, where this happens before. Gives the syncs before the sealing.
+fn make<M: Maker>(
+    maker: &mut M,
+    seen: &Seen,
+    step: Step,
+) -> Result<((bool, bool), (u8, u8, u8)), Failed> {
+    maker.begin(TABLE)?;
+    let _ = happens(seen, step);
+    maker.write(b"one")?;
+    let before = seen.syncs();
+    Ok((seal_twice(maker, seen), before))
+}
+
+/// What the making of a table told, where this happens once it is begun.
+fn sealed_after(rt: HostRuntime, step: Step) -> Result<Sealed, Fail> {
+    let alloc = rt.alloc();
+    let seen = seen_at(alloc, First::Nothing)?;
+    let mut maker = RealMaker::new(folder_over(rt, alloc, &seen)?)?;
+    let made = make(&mut maker, &seen, step);
+    let (taken, faults) = (maker.taken, maker.faults.count);
+    drop(maker);
+    let ((is_sealed, again), before) = made?;
+    Ok(Sealed {
+        is_sealed,
+        again,
+        before,
+        after: seen.syncs(),
+        taken,
+        faults,
+    })
+}
+
+#[test]
+fn a_table_is_sealed_by_syncs_of_its_file_and_its_name(rt: HostRuntime) -> Result<(), Fail> {
+    let told = sealed_after(rt, Step::Size)?;
+    assert!(rt; told.is_sealed);
+    assert_eq!(rt; (told.before, told.after), ((0, 0, 1), (1, 1, 1)));
+    Ok(())
+}
+
+#[test]
+fn no_table_is_sealed_after_a_failed_sync(rt: HostRuntime) -> Result<(), Fail> {
+    let told = sealed_after(rt, Step::FailSyncs(true))?;
+    assert!(rt; !told.is_sealed && !told.again);
+    assert_eq!(rt; (told.faults, told.after), (2, (0, 0, 1)));
     Ok(())
 }
 
 #[test]
 fn no_table_is_sealed_whose_name_was_not_synced(rt: HostRuntime) -> Result<(), Fail> {
-    let seen = Rc::new(rt.alloc(), Seen::nothing())?;
-    let mut maker = RealMaker::new(folder_over(rt, rt.alloc(), &seen)?)?;
+    let told = sealed_after(rt, Step::FailFolderSyncs(true))?;
+    assert!(rt; !told.is_sealed && !told.again);
+    Ok(())
+}
+
+/// Whether a log is synced while syncs of the directory fail, and then a table sealed.
+fn log_then_table<J: Journal, M: Maker>(
+    journal: &mut J,
+    maker: &mut M,
+    seen: &Seen,
+) -> Result<(bool, bool), Failed> {
+    journal.write(LOG, 0, b"a")?;
     maker.begin(TABLE)?;
     seen.fails_folder_syncs.set(true);
-    let Err(_) = maker.seal() else {
-        return Err(Fail::from("sealed without a name"));
-    };
+    let early = journal.sync(LOG).is_ok();
     seen.fails_folder_syncs.set(false);
-    let again = maker.seal().is_err();
-    assert!(rt; again);
+    Ok((early, maker.seal().is_ok()))
+}
+
+/// Whether a table is sealed while syncs of the directory fail, and then a log synced.
+fn table_then_log<J: Journal, M: Maker>(
+    journal: &mut J,
+    maker: &mut M,
+    seen: &Seen,
+) -> Result<(bool, bool), Failed> {
+    journal.write(LOG, 0, b"a")?;
+    maker.begin(TABLE)?;
+    seen.fails_folder_syncs.set(true);
+    let early = maker.seal().is_ok();
+    seen.fails_folder_syncs.set(false);
+    Ok((early, journal.sync(LOG).is_ok()))
+}
+
+/// The one or the other over a journal and a maker of one directory.
+fn over_one(rt: HostRuntime, log_first: bool) -> Result<(bool, bool), Fail> {
+    let alloc = rt.alloc();
+    let seen = seen_at(alloc, First::Nothing)?;
+    let folder = folder_over(rt, alloc, &seen)?;
+    let mut maker = RealMaker::new(folder.copy()?)?;
+    let mut journal = journal_over(folder);
+    let told = if log_first {
+        log_then_table(&mut journal, &mut maker, &seen)
+    } else {
+        table_then_log(&mut journal, &mut maker, &seen)
+    };
+    Ok(told?)
+}
+
+#[test]
+fn a_failed_sync_of_names_is_shared_by_the_journal_and_the_makers(
+    rt: HostRuntime,
+) -> Result<(), Fail> {
+    let log_first = over_one(rt, true)?;
+    let table_first = over_one(rt, false)?;
+    assert_eq!(rt; log_first, (false, false));
+    assert_eq!(rt; table_first, (false, false));
+    Ok(())
+}
+
+/// The numbers that a port of the watched directory lists.
+fn numbers_of(rt: HostRuntime) -> Result<Vec<u64>, Fail> {
+    let alloc = rt.alloc();
+    let seen = seen_at(alloc, First::Folder)?;
+    let folder = folder_over(rt, alloc, &seen)?;
+    let _ = folder.keep_others_out();
+    let numbers = RealPort::new(folder).list();
+    Ok(numbers?)
+}
+
+#[test]
+fn names_that_are_no_tables_are_skipped(rt: HostRuntime) -> Result<(), Fail> {
+    let numbers = numbers_of(rt)?;
+    assert_eq!(rt; numbers.as_slice(), [TABLE, TABLE + 1].as_slice());
     Ok(())
 }

@@ -23,8 +23,8 @@ pub struct Seen {
     pub fails_folder_syncs: Cell<bool>,
     /// Whether another program is in the directory.
     pub is_taken: Cell<bool>,
-    /// Whether the file that is there may only be read.
-    pub is_read_only: Cell<bool>,
+    /// The error with which the file that is there is refused to be written, if it may only be read.
+    pub read_only: Cell<Option<ErrorKind>>,
     /// Whether a signal comes between at the next read or write.
     pub is_interrupted: Cell<bool>,
 }
@@ -41,7 +41,7 @@ impl Seen {
             fails_syncs: Cell::new(false),
             fails_folder_syncs: Cell::new(false),
             is_taken: Cell::new(false),
-            is_read_only: Cell::new(false),
+            read_only: Cell::new(None),
             is_interrupted: Cell::new(false),
         }
     }
@@ -52,6 +52,14 @@ impl Seen {
             return Err(io::Error::from(ErrorKind::Interrupted));
         }
         Ok(())
+    }
+
+    /// Fails, where the file may only be read.
+    fn refuse_writing(&self) -> io::Result<()> {
+        match self.read_only.get() {
+            Some(kind) => Err(io::Error::from(kind)),
+            None => Ok(()),
+        }
     }
 
     /// The syncs of the file, of its directory, and of the directory's parent.
@@ -136,6 +144,7 @@ impl Read for WatchedFile {
 impl Write for WatchedFile {
     fn write(&mut self, buf: &[u8]) -> io::Result<usize> {
         self.seen.interrupt()?;
+        self.seen.refuse_writing()?;
         Ok(buf.len())
     }
 
@@ -212,8 +221,8 @@ impl<W> Files for Watched<W> {
             self.seen.has_file.set(true);
         }
         is_there(kind != Kind::File || self.seen.has_file.get())?;
-        if how.asks_write() && self.seen.is_read_only.get() {
-            return Err(io::Error::from(ErrorKind::PermissionDenied));
+        if how.asks_write() {
+            self.seen.refuse_writing()?;
         }
         Ok(WatchedFile {
             seen: self.seen.clone()?,

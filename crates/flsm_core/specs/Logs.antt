@@ -68,7 +68,8 @@ AreOf profile logs = AllByRecursion (λ (log : Held). log.header.profile ≡ pro
 
 -- what is read of an image: the logs from 1 on up to the first absent one, all of this profile,
 -- which spell these batches, in order
-pub record Reads (profile : Profile) (image : Image) (logs : List Held) (batches : Batches) : Type 0 where
+pub record Reads (profile : Profile) (image : Image) (logs : List Held)
+    (batches : Batches) : Type 0 where
   pub holds : HoldsLogs 1 logs image
   pub same : AreOf profile logs
   pub spelled : SpellsAll logs batches

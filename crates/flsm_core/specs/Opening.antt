@@ -55,7 +55,8 @@ OpenCause rose tells seen profile (opens.Profile have asked) =
     × (IsTrue tells → HasReadLog seen (λ header. header.profile ≡ have))
 OpenCause rose tells seen profile (opens.Limit kind n) =
     (kind ≡ kinds.Openings) × (n ≡ 8388607)
-    × (IsTrue tells → HasReadLog seen (λ header. (header.profile ≡ profile) × (8388607 ≤ header.session)))
+    × (IsTrue tells
+    → HasReadLog seen (λ header. (header.profile ≡ profile) × (8388607 ≤ header.session)))
 OpenCause rose tells seen profile opens.Memory = Unit {0}
 
 -- ---- the reading of logs, one after another
@@ -77,7 +78,8 @@ OnDamage (replays.Damaged at) P = P
 OnDamage replays.Memory P = Unit {0}
 
 -- these logs were found, in this profile, and they spell these batches
-pub record IsFound (profile : Profile) (found : Found) (logs : List Held) (batches : Batches) : Type 0 where
+pub record IsFound (profile : Profile) (found : Found) (logs : List Held)
+    (batches : Batches) : Type 0 where
   pub spelled : SpellsAll logs batches
   pub replay : IsReplayOf found.replay batches
   pub greatest : found.greatest ≡ greatest_session logs
@@ -107,7 +109,8 @@ AddCause profile number header P (opens.Limit kind n) = (kind ≡ kinds.Openings
 AddCause profile number header P opens.Memory = Unit {0}
 
 -- what was read of the logs, once they were synced: a crash leaves them so
-pub record Quiet {D : Type 0} (d : Ghosts D) (journal : D) (start : Start) (logs : List Held) : Type 0 where
+pub record Quiet {D : Type 0} (d : Ghosts D) (journal : D) (start : Start)
+    (logs : List Held) : Type 0 where
   pub reads : Reads start.profile (d.seen journal) logs start.base
   pub none_above : IsTrue start.honest → (m : ℕ) → suc (length logs) < m
       → d.seen journal (Log m) ≡ None

@@ -24,12 +24,9 @@ IsIn range image = Leaves range.profile range.least range.all image
 abbrev pub AreIn : Range → (Image → Type 0) → Type 0
 AreIn range images = (image : Image) → images image → IsIn range image
 
--- The state was opened on what was read of such a journal: on first batches of all, at least on the
--- least. From a moment of the opening on a crash leaves what was opened. Since its beginning it
--- leaves first batches of all, at least the least.
-pub record OpenedIn {D : Type 0} (d : Ghosts D) (state : State D) (told : JournalTold)
-    (range : Range) : Type 0 where
-  pub start : Start
+-- An opening that begins so opens what is told as read of such a journal: first batches of all, at
+-- least the least. From its moment on a crash leaves them.
+pub record StartsIn (range : Range) (told : JournalTold) (start : Start) : Type 0 where
   pub profile : start.profile ≡ range.profile
   pub sure : start.honest ≡ true
   pub enough : IsFront range.least start.base
@@ -37,5 +34,11 @@ pub record OpenedIn {D : Type 0} (d : Ghosts D) (state : State D) (told : Journa
   pub reads : ReadsAs range.profile start.base told.seen
   pub began : told.moment ≤ start.moment
   pub counted : told.faults ≤ start.faults
+
+-- The state was opened so; and since the journal told this a crash left images in the range.
+pub record OpenedIn {D : Type 0} (d : Ghosts D) (state : State D) (told : JournalTold)
+    (range : Range) : Type 0 where
+  pub start : Start
+  pub starts : StartsIn range told start
   pub stands : IsAt d state (opened start)
   pub since : AreIn range (d.left_since state.journal told.moment)

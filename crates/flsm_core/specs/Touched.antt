@@ -11,22 +11,24 @@ use Rattle.record_log.specs.Log.{IsUnfinished}
 abbrev pub AreSameBut : JournalFile → Image → Image → Type 0
 AreSameBut file a b = (other : JournalFile) → other ≢ file → b other ≡ a other
 
--- Calls changed one file at most: as reads give the others they are the same, and an image that was left since a time is,
--- but for this file, one that was left since that time before the calls.
+-- Calls changed one file at most: as reads give the others they are the same, and an image that was left
+-- since a time is, but for this file, one that was left since that time before the calls.
 pub record HasTouched (tells : Bool) (file : JournalFile) (old new : JournalTold) : Type 0 where
   pub later : old.moment ≤ new.moment
   pub reads : AreSameBut file old.seen new.seen
   pub images : IsTrue tells → (t : ℕ) (image : Image) → t ≤ old.moment → new.left_since t image
       → (before : Image) × old.left_since t before × AreSameBut file before image
 
-pub touched_self : (tells : Bool) (file : JournalFile) (told : JournalTold) → HasTouched tells file told told
+pub touched_self : (tells : Bool) (file : JournalFile) (told : JournalTold)
+    → HasTouched tells file told told
 touched_self tells file told = record {
   later = omega arith;
   reads = λ other differ. refl;
   images = λ sure t image le left. (image, left, λ other differ. refl);
 }
 
-pub touched_on : (tells : Bool) (file : JournalFile) (a b c : JournalTold) → HasTouched tells file a b → HasTouched tells file b c → HasTouched tells file a c
+pub touched_on : (tells : Bool) (file : JournalFile) (a b c : JournalTold)
+    → HasTouched tells file a b → HasTouched tells file b c → HasTouched tells file a c
 touched_on tells file a b c one two = record {
   later = omega (arith, one.later, two.later);
   reads = λ other differ. two.reads other differ ∙ one.reads other differ;
@@ -37,14 +39,16 @@ touched_on tells file a b c one two = record {
 }
 
 -- calls changed no file but this one, the first log that wasn't there
-pub record HasTouchedNextLog (tells : Bool) (file : JournalFile) (old new : JournalTold) : Type 0 where
+pub record HasTouchedNextLog (tells : Bool) (file : JournalFile)
+    (old new : JournalTold) : Type 0 where
   pub number : ℕ
   pub named : file ≡ Log number
   pub absent : IsTrue tells → IsUnfinished (old.seen (Log number))
   pub touched : HasTouched tells file old new
 
 -- what tells the same has changed no file
-pub touched_same : (tells : Bool) (file : JournalFile) (a b : JournalTold) → TellsTheSame a b → HasTouched tells file a b
+pub touched_same : (tells : Bool) (file : JournalFile) (a b : JournalTold) → TellsTheSame a b
+    → HasTouched tells file a b
 touched_same tells file a b same = record {
   later = omega (arith, same.time);
   reads = λ other differ. ap (λ (i : Image). i other) same.bytes;
@@ -52,24 +56,32 @@ touched_same tells file a b same = record {
 }
 
 -- a log that was begun stays the one that was changed
-pub next_log_on : (tells : Bool) (file : JournalFile) (a b c d : JournalTold) → TellsTheSame a b → HasTouchedNextLog tells file b c → HasTouched tells file c d → HasTouchedNextLog tells file a d
+pub next_log_on : (tells : Bool) (file : JournalFile) (a b c d : JournalTold) → TellsTheSame a b
+    → HasTouchedNextLog tells file b c → HasTouched tells file c d
+    → HasTouchedNextLog tells file a d
 next_log_on tells file a b c d first next last = record {
   number = next.number;
   named = next.named;
-  absent = λ told. subst (λ (i : Image). IsUnfinished (i (Log next.number))) first.bytes (next.absent told);
-  touched = touched_on tells file a b d (touched_same tells file a b first) (touched_on tells file b c d next.touched last);
+  absent = λ told. subst (λ (i : Image). IsUnfinished (i (Log next.number))) first.bytes
+      (next.absent told);
+  touched = touched_on tells file a b d (touched_same tells file a b first)
+      (touched_on tells file b c d next.touched last);
 }
 
 -- calls led from the one place of a log to the other, and changed no file but the log's
-pub record HasTouchedLog (tells : Bool) (old_file new_file : JournalFile) (old new : JournalTold) : Type 0 where
+pub record HasTouchedLog (tells : Bool) (old_file new_file : JournalFile)
+    (old new : JournalTold) : Type 0 where
   pub log : new_file ≡ old_file
   pub touched : HasTouched tells old_file old new
 
-pub log_touched_self : (tells : Bool) (file : JournalFile) (told : JournalTold) → HasTouchedLog tells file file told told
+pub log_touched_self : (tells : Bool) (file : JournalFile) (told : JournalTold)
+    → HasTouchedLog tells file file told told
 log_touched_self tells file told = record { log = refl; touched = touched_self tells file told }
 
-pub log_touched_on : (tells : Bool) (f g h : JournalFile) (a b c : JournalTold) → HasTouchedLog tells f g a b → HasTouchedLog tells g h b c → HasTouchedLog tells f h a c
+pub log_touched_on : (tells : Bool) (f g h : JournalFile) (a b c : JournalTold)
+    → HasTouchedLog tells f g a b → HasTouchedLog tells g h b c → HasTouchedLog tells f h a c
 log_touched_on tells f g h a b c one two = record {
   log = two.log ∙ one.log;
-  touched = touched_on tells f a b c one.touched (subst (λ (file : JournalFile). HasTouched tells file b c) one.log two.touched);
+  touched = touched_on tells f a b c one.touched
+      (subst (λ (file : JournalFile). HasTouched tells file b c) one.log two.touched);
 }

@@ -139,7 +139,8 @@ impl<J: Journal> State<J> {
             (J.left_since journal) (J.left_since e.1)) }
         ensures next_log { MatchResult result
             (λ state. (state_file state ≡ Log (found.logs + 1))
-            × HasTouched J.tells (Log (found.logs + 1)) (told_by J.Journal journal) (told_by J.Journal (state_journal state)))
+            × HasTouched J.tells (Log (found.logs + 1)) (told_by J.Journal journal)
+            (told_by J.Journal (state_journal state)))
             (λ e. HasTouched J.tells (Log (found.logs + 1)) (told_by J.Journal journal) (told_by J.Journal e.1)) }
         ensures never_falls { MatchResult result
             (λ state. J.faults journal ≤ J.faults (state_journal state))
@@ -181,10 +182,12 @@ impl<J: Journal> State<J> {
         // what it gives
         ensures stands { IfOk result (λ state. IsTrue J.tells → (honest : Bool) (base : Batches)
             → OpensOn profile honest base (J.seen journal) (J.may_leave journal)
-            → IsAt J.Journal state (opened (start_at (told_by J.Journal journal) profile honest base))) }
+            → IsAt J.Journal state
+            (opened (start_at (told_by J.Journal journal) profile honest base))) }
         ensures somewhere { IfOk result (λ state. (base : Batches)
             × (IsTrue J.tells → ReadsAs profile base (J.seen journal))
-            × IsAt J.Journal state (opened (start_at (told_by J.Journal journal) profile false base))
+            × IsAt J.Journal state
+            (opened (start_at (told_by J.Journal journal) profile false base))
             × (last_number base < state_session state * 2 ^ 40)) }
         ensures within { IfOk result (λ state. IsTrue J.tells → (range : Range)
             → range.profile ≡ profile → AreIn range (J.may_leave journal)
@@ -212,7 +215,8 @@ impl<J: Journal> State<J> {
         ensures time { IfErr result (λ e. J.moment journal ≤ J.moment e.1) }
         ensures next_log { IfOk result (λ state. HasTouchedNextLog J.tells (state_file state)
             (told_by J.Journal journal) (told_by J.Journal (state_journal state))) }
-        ensures next_log_err { IfErr result (λ e. HasWatched (told_by J.Journal journal) (told_by J.Journal e.1)
+        ensures next_log_err { IfErr result
+            (λ e. HasWatched (told_by J.Journal journal) (told_by J.Journal e.1)
             ⊎ ((file : JournalFile) × HasTouchedNextLog J.tells file (told_by J.Journal journal) (told_by J.Journal e.1))) }
         ensures never_falls { MatchResult result
             (λ state. J.faults journal ≤ J.faults (state_journal state))

@@ -8,7 +8,8 @@ use Rattle.disk_model.specs.SinkNames.{Label, SinkNames, after_client, after_ret
 use Rattle.disk_model.specs.Told.{JournalTold, TablesTold, TellsTheSame, TablesStay}
 use Rattle.flsm_core.specs.declared.open_fault.OpenFault.{OpenFault}
 use Rattle.flsm_core.specs.declared.open_fault.OpenFault.TheVariants as opens
-use Rattle.flsm_core.specs.Place.{Place, opened, start_at}
+use Rattle.flsm_core.specs.Place.{Place, Start, opened, start_at}
+use Rattle.flsm_core.specs.Range.{Range, AreIn, StartsIn}
 use Rattle.flsm_core.specs.Logs.{Held, HoldsLogs, ReadsAs, greatest_session}
 use Rattle.flsm_core.specs.Standing.{IsLeftBy}
 use Rattle.flsm_core.specs.Opening.{OpensOn, OpenCause, HasWatched}
@@ -60,6 +61,28 @@ opens_same a b false profile base same on = subst (ReadsAs profile base) (sym sa
 -- where an opening began is told the same
 pub starts_same : (a b : JournalTold) (profile : Profile) (honest : Bool) (base : Batches) → TellsTheSame a b → start_at b profile honest base ≡ start_at a profile honest base
 starts_same a b profile honest base same = λ i. record { moment = same.time i; faults = same.count i; profile = profile; honest = honest; base = base }
+
+-- an opening in a range begins where the same is told otherwise
+pub starts_in_same : (range : Range) (a b : JournalTold) (start : Start) → TellsTheSame a b → StartsIn range b start → StartsIn range a start
+starts_in_same range a b start same starts = record {
+  profile = starts.profile;
+  sure = starts.sure;
+  enough = starts.enough;
+  within = starts.within;
+  reads = subst (ReadsAs range.profile start.base) same.bytes starts.reads;
+  began = omega (arith, same.time, starts.began);
+  counted = omega (arith, same.count, starts.counted);
+}
+
+-- images in a range are in it where the same is told before and after
+pub in_between : (range : Range) (a b c d : JournalTold) → TellsTheSame a b → TellsTheSame c d → AreIn range (c.left_since b.moment) → AreIn range (d.left_since a.moment)
+in_between range a b c d first last inside image left =
+    inside image (subst (λ (t : ℕ). c.left_since t image) (sym first.time) ((last.past a.moment image).0 left))
+
+-- nothing was done, so each image is one of before
+pub in_same : (range : Range) (a b : JournalTold) → ((image : Image) → a.left_since a.moment image → a.may_leave image)
+    → TellsTheSame a b → AreIn range a.may_leave → AreIn range (b.left_since a.moment)
+in_same range a b only same on image left = on image (only image ((same.past a.moment image).0 left))
 
 -- nothing was done
 pub watched_same : (a b : JournalTold) → ((t : ℕ) (image : Image) → t ≤ a.moment → a.may_leave image → a.left_since t image) → ((image : Image) → a.left_since a.moment image → a.may_leave image)

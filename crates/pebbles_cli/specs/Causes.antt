@@ -99,7 +99,8 @@ sink_cause failed = if failed then Some (causes.Sink 1) else None
 -- closing sync, of the report
 abbrev pub end_of : Option Cause → Bool → Option Cause → Option Cause → Cause
 end_of fault failed closing report =
-    unwrap_or (option_or fault (option_or (sink_cause failed) (option_or closing report))) causes.Done
+    unwrap_or
+    (option_or fault (option_or (sink_cause failed) (option_or closing report))) causes.Done
 
 -- a write tells these limits
 abbrev pub IsWriteLimit : LimitKind → ℕ → Type 0

@@ -56,4 +56,5 @@ sinks_told k sinks =
 -- what these devices and sinks tell
 abbrev pub outside : {D J F P M K O : Type 0} → journal.Ghosts J → devices.Ghosts D J F P M
     → sinks.Ghosts K O → D → K → Outside
-outside j d k devices sinks = record { devices = devices_told j d devices; sinks = sinks_told k sinks }
+outside j d k devices sinks =
+    record { devices = devices_told j d devices; sinks = sinks_told k sinks }

@@ -21,7 +21,8 @@ use Rattle.pebbles_cli.specs.Writes.{Writes, after_write}
 
 -- the line for what a write answered
 abbrev pub write_line : Bool → Result ℕ WriteFault → List ℕ
-write_line sync (Ok n) = if sync then reply_text (replies.Synced n) else reply_text (replies.Written n)
+write_line sync (Ok n) =
+    if sync then reply_text (replies.Synced n) else reply_text (replies.Written n)
 write_line sync (Err (writes.Unsynced n)) = reply_text (replies.UnsyncedFault n)
 write_line sync (Err writes.Stopped) = reply_text replies.Stopped
 write_line sync (Err (writes.Limit kind n)) = reply_text (replies.Limit kind n)
@@ -68,7 +69,8 @@ pub record TellsGet (old : Place) (key : Bytes) (text : List ℕ) (cause : Optio
 
 -- from a place on, a store of this session may have this line for the command, which leads there
 abbrev pub TellsOne : ℕ → Place → Command → List ℕ → Option Cause → Place → Type 0
-TellsOne session old (commands.Put key value sync) text cause new = TellsPut session old key value sync text cause new
+TellsOne session old (commands.Put key value sync) text cause new =
+    TellsPut session old key value sync text cause new
 TellsOne session old (commands.Get key) text cause new = TellsGet old key text cause new
 
 -- what one command may do: from a place, with a line that tells a fault, to a place

@@ -17,6 +17,7 @@ use Rattle.flsm_core.specs.Place.{Start, Place, all_of, opened, start_at, after_
 use Rattle.flsm_core.specs.Logs.{Held, HoldsLogs, ReadsAs, Stands, greatest_session}
 use Rattle.flsm_core.specs.Opening.{OpensOn, HasWatched}
 use Rattle.flsm_core.specs.Touched.{HasTouchedNextLog}
+use Rattle.flsm_core.specs.Range.{Range, AreIn, StartsIn}
 use Rattle.flsm_core.specs.Standing.{IsLeftBy}
 use Rattle.pebbles_cli.specs.declared.served.Served.{Served}
 use Rattle.pebbles_cli.specs.Causes.{Says, RefusalCause, ReportCause, end_of}
@@ -60,8 +61,8 @@ pub record IsAnswered (run : Run) (old new : SinksTold) (went : Went) : Type 0 w
   pub told : Tells (TellsOne run.session) run.start run.commands went.text went.served.fault
       went.served.sink_failed went.place
   pub shown : ShowsAll went.place run.commands went.text went.served.sink_failed
-  pub numbered : AreNumbered (last_number (all_of run.start)) (all_of went.place) run.commands went.text
-      went.served.sink_failed
+  pub numbered : AreNumbered (last_number (all_of run.start)) (all_of went.place) run.commands
+      went.text went.served.sink_failed
   pub taken : IsTaken new.replies went.text
   pub failed : IsTrue went.served.sink_failed → Rose 0 new.reply_faults
   pub names : new.names ≡ after_return 1 (replies_label run.name) (after_client old.names)
@@ -104,8 +105,8 @@ abbrev pub Reports : ℕ → Option Cause → Option (List ℕ) → Option (List
 Reports last None old new = TookMore old (run_report last) new
 Reports last (Some cause) old new = (k : ℕ) × TookMore old (take k (run_report last)) new
 
--- a store that stood at this place was synced and handed back, and then the report was written to sinks that told this
--- until then
+-- a store that stood at this place was synced and handed back, and then the report was written to
+-- sinks that told this until then
 pub record IsClosed (answered : Place) (before : SinksTold) (new : Outside) (closed : Closed)
     : Type 0 where
   -- the closing sync
@@ -114,7 +115,8 @@ pub record IsClosed (answered : Place) (before : SinksTold) (new : Outside) (clo
   pub halted : closed.place.stopped ≡ true
       → Rose closed.place.start.faults new.devices.journal.faults
   -- the report
-  pub reports : Reports (last_number (all_of closed.place)) closed.report before.report new.sinks.report
+  pub reports : Reports (last_number (all_of closed.place)) closed.report before.report
+      new.sinks.report
   pub report_cause : ReportCause (Rose before.faults new.sinks.faults) closed.report
   pub replies_stay : RepliesStay before new.sinks
   -- what a crash leaves
@@ -157,7 +159,12 @@ pub record Ran (start : Start) (asked : Asked) (old new : Outside) (cause : Caus
   -- what was replied, and what the sinks told when it was
   pub replied : SinksTold
   pub served : IsServed
-      (record { session = session; start = opened start; name = replies_name asked.file; commands = commands })
+      (record {
+        session = session;
+        start = opened start;
+        name = replies_name asked.file;
+        commands = commands;
+      })
       old.sinks replied went
   pub unreported : replied.report ≡ old.sinks.report
   pub counted : old.sinks.faults ≤ replied.faults
@@ -194,6 +201,14 @@ pub record NotOpened (asked : Asked) (old new : Outside) (cause : Cause) : Type 
 -- the script was run over a store that was opened so, or no store was opened
 abbrev pub Plays : Start → Asked → Outside → Outside → Cause → Type 0
 Plays start asked old new cause = NotOpened asked old new cause ⊎ Ran start asked old new cause
+
+-- Over a journal whose images lie in a range: the script was run over a store that was opened on
+-- what was read, or no store was opened and each image left since lies in the range.
+abbrev pub PlaysIn : Range → Asked → Outside → Outside → Cause → Type 0
+PlaysIn range asked old new cause =
+    (NotOpened asked old new cause
+    × AreIn range (new.devices.journal.left_since old.devices.journal.moment))
+    ⊎ ((start : Start) × StartsIn range old.devices.journal start × Ran start asked old new cause)
 
 -- the script was run over a store that was opened over some base, which was read where reads are
 -- told, or no store was opened

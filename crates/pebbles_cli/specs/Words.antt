@@ -17,7 +17,8 @@ are_run run profile small workers count dir file =
 
 -- the directory and the script that words name
 abbrev pub run_words : List (List ℕ) → Option (List ℕ × List ℕ)
-run_words (run ∷ profile ∷ small ∷ workers ∷ count ∷ dir ∷ file ∷ []) = if are_run run profile small workers count dir file then Some (dir, file) else None
+run_words (run ∷ profile ∷ small ∷ workers ∷ count ∷ dir ∷ file ∷ []) =
+    if are_run run profile small workers count dir file then Some (dir, file) else None
 run_words _ = None
 
 -- the names as bytes

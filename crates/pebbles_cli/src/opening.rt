@@ -4,7 +4,8 @@ ghost use Rattle.peb_base.specs.Batches.{Batches, last_number};
 ghost use Rattle.disk_model.specs.Directories.{after_choice, after_opening};
 ghost use Rattle.disk_model.specs.Told.{TellsTheSame, TablesStay, told_by};
 ghost use Rattle.disk_model.specs.Images.{Image};
-ghost use Rattle.flsm_core.specs.Place.{Place, opened, start_at};
+ghost use Rattle.flsm_core.specs.Place.{Place, Start, opened, start_at};
+ghost use Rattle.flsm_core.specs.Range.{Range, AreIn, StartsIn};
 ghost use Rattle.flsm_core.specs.Logs.{ReadsAs, Stands};
 ghost use Rattle.flsm_core.specs.Opening.{OpensOn, HasWatched};
 ghost use Rattle.flsm_core.specs.Standing.{IsAt, IsLeftBy};
@@ -44,7 +45,8 @@ pub fn open_store<D: Devices>(
 ) -> Result<State<D::J>, Cause>
     // what it gives
     ensures stands { IfOk result (λ state. IsTrue D.J.tells → (honest : Bool) (base : Batches)
-        → OpensOn Small honest base (D.journal_told devices.old).seen (D.journal_told devices.old).may_leave
+        → OpensOn Small honest base (D.journal_told devices.old).seen
+        (D.journal_told devices.old).may_leave
         → IsAt D.J.Journal state (opened (start_at (D.journal_told devices.old) Small honest base))
         × IsNext (D.journal_told devices.old).seen (state_session state)
         × (last_number base < state_session state * 2 ^ 40)) }
@@ -53,13 +55,20 @@ pub fn open_store<D: Devices>(
         × IsAt D.J.Journal state (opened (start_at (D.journal_told devices.old) Small false base))
         × (IsTrue D.J.tells → IsNext (D.journal_told devices.old).seen (state_session state))
         × (last_number base < state_session state * 2 ^ 40)) }
+    ensures within { IfOk result (λ state. IsTrue D.J.tells → (range : Range)
+        → range.profile ≡ Small → AreIn range (D.journal_told devices.old).may_leave
+        → (start : Start) × StartsIn range (D.journal_told devices.old) start
+        × IsAt D.J.Journal state (opened start)
+        × IsNext (D.journal_told devices.old).seen (state_session state)
+        × (last_number start.base < state_session state * 2 ^ 40)) }
     ensures possible { IfOk result (λ state. state_session state ≤ 8388607) }
     ensures opened { OnOk result (D.directories devices.new
         ≡ after_opening (after_choice dir.now (D.directories devices.old))) }
     ensures next_log { IfOk result (λ state. HasTouchedNextLog D.J.tells (state_file state)
         (D.journal_told devices.old) (told_by D.J.Journal (state_journal state))) }
     // when it fails
-    ensures cause { IfErr result (λ cause. IsOpeningCause (devices_told D.J.Journal D.Devices devices.old)
+    ensures cause { IfErr result
+        (λ cause. IsOpeningCause (devices_told D.J.Journal D.Devices devices.old)
         (devices_told D.J.Journal D.Devices devices.new) cause) }
     // what it leaves
     ensures refused { OnErr result (OpensAtMost dir.now (D.directories devices.old)
@@ -69,10 +78,15 @@ pub fn open_store<D: Devices>(
     ensures next_log_err { IfErr result (λ _. TouchesAtMost D.J.tells
         (D.journal_told devices.old) (D.journal_told devices.new)) }
     ensures ever { IfErr result (λ cause. IsTrue D.J.tells → (base : Batches)
-        → OpensOn Small true base (D.journal_told devices.old).seen (D.journal_told devices.old).may_leave
+        → OpensOn Small true base (D.journal_told devices.old).seen
+        (D.journal_told devices.old).may_leave
         → (image : Image)
         → (D.journal_told devices.new).left_since (D.journal_told devices.old).moment image
         → Stands Small base image) }
+    ensures ever_within { IfErr result (λ cause. IsTrue D.J.tells → (range : Range)
+        → range.profile ≡ Small → AreIn range (D.journal_told devices.old).may_leave
+        → AreIn range ((D.journal_told devices.new).left_since
+        (D.journal_told devices.old).moment)) }
     ensures later { IfErr result (λ _. (D.journal_told devices.old).moment
         ≤ (D.journal_told devices.new).moment) }
     ensures tables { TablesStay (D.tables_told devices.old) (D.tables_told devices.new) }
@@ -95,7 +109,8 @@ pub fn open_store<D: Devices>(
 
 /// Hands the journal of a store back to the devices.
 pub fn close_store<D: Devices>(devices: &mut D, state: State<D::J>)
-    ensures told { TellsTheSame (told_by D.J.Journal (state_journal state)) (D.journal_told devices.new) }
+    ensures told { TellsTheSame (told_by D.J.Journal (state_journal state))
+        (D.journal_told devices.new) }
     ensures left { IsTrue D.J.tells → (p : Place) → IsAt D.J.Journal state p
         → IsLeftBy p (D.journal_told devices.new) }
     ensures directories { D.directories devices.new ≡ D.directories devices.old }

@@ -5,6 +5,7 @@ ghost use Rattle.disk_model.specs.Told.{TablesStay, told_by};
 ghost use Rattle.flsm_core.specs.Opening.{OpensOn};
 ghost use Rattle.flsm_core.specs.Place.{Place, start_at};
 ghost use Rattle.flsm_core.specs.Standing.{IsAt};
+ghost use Rattle.flsm_core.specs.Range.{Range, AreIn};
 ghost use Rattle.flsm_core.specs.State.{state_journal, state_file};
 ghost use Rattle.flsm_core.specs.Touched.{HasTouched};
 ghost use Rattle.pebbles_cli.specs.Causes.{IsBeforeOpening, Says, end_of};
@@ -12,7 +13,7 @@ ghost use Rattle.pebbles_cli.specs.Names.{replies_name};
 ghost use Rattle.pebbles_cli.specs.Outside.{outside, sinks_told};
 ghost use Rattle.pebbles_cli.specs.Read.{IsWithin};
 ghost use Rattle.pebbles_cli.specs.Tells.{sync_cause};
-ghost use Rattle.pebbles_cli.specs.Top.{Asked, Closed, IsClosed, Plays, PlaysSomehow};
+ghost use Rattle.pebbles_cli.specs.Top.{Asked, Closed, IsClosed, Plays, PlaysIn, PlaysSomehow};
 
 use crate::closing::{settle, write_report};
 use crate::opening::{close_store, open_store};
@@ -59,10 +60,12 @@ fn close_run<D: Devices, K: Sinks>(
     ensures closed { (p : Place) → IsAt D.J.Journal opened p → (closed : Closed)
         × (IsClosed p (sinks_told K.Sinks sinks.old)
         (outside D.J.Journal D.Devices K.Sinks devices.new sinks.new) closed
-        × (result ≡ end_of served.fault served.sink_failed (sync_cause closed.answer) closed.report)) }
+        × (result ≡ end_of served.fault served.sink_failed
+        (sync_cause closed.answer) closed.report)) }
     // what stays
     ensures directories { D.directories devices.new ≡ D.directories devices.old }
-    ensures touched { HasTouched D.J.tells (state_file opened) (told_by D.J.Journal (state_journal opened))
+    ensures touched { HasTouched D.J.tells (state_file opened)
+        (told_by D.J.Journal (state_journal opened))
         (D.journal_told devices.new) }
     ensures faults { D.faults devices.new ≡ D.faults devices.old }
     ensures tables { TablesStay (D.tables_told devices.old) (D.tables_told devices.new) }
@@ -89,9 +92,17 @@ pub fn run_commands<D: Devices, K: Sinks>(
     ensures ran { IsTrue D.J.tells → (text : Option (List ℕ)) → IsWithin text 16777216
         → Says text commands.items
         → (honest : Bool) (base : Batches)
-        → OpensOn Small honest base (D.journal_told devices.old).seen (D.journal_told devices.old).may_leave
+        → OpensOn Small honest base (D.journal_told devices.old).seen
+        (D.journal_told devices.old).may_leave
         → Plays (start_at (D.journal_told devices.old) Small honest base)
         (record { dir = dir.now; file = file.now; text = text })
+        (outside D.J.Journal D.Devices K.Sinks devices.old sinks.old)
+        (outside D.J.Journal D.Devices K.Sinks devices.new sinks.new) result }
+    ensures within { IsTrue D.J.tells → (text : Option (List ℕ)) → IsWithin text 16777216
+        → Says text commands.items
+        → (range : Range) → range.profile ≡ Small
+        → AreIn range (D.journal_told devices.old).may_leave
+        → PlaysIn range (record { dir = dir.now; file = file.now; text = text })
         (outside D.J.Journal D.Devices K.Sinks devices.old sinks.old)
         (outside D.J.Journal D.Devices K.Sinks devices.new sinks.new) result }
     ensures somehow { (text : Option (List ℕ)) → IsWithin text 16777216 → Says text commands.items

@@ -103,7 +103,8 @@ pub fn serve<S: Store, K: Sink>(
     ensures told { (old : Place) → S.stands store.old old
         → (text : List ℕ) × (new : Place) × (S.stands store.new new
         × ((TookMore (K.taken sink.old) text (K.taken sink.new))
-        × Tells (TellsOne (S.session store.old)) old commands.items text result.fault result.sink_failed new)) }
+        × Tells (TellsOne (S.session store.old)) old commands.items text result.fault
+        result.sink_failed new)) }
     ensures session { S.session store.new ≡ S.session store.old }
     ensures touched { S.touched store.old store.new }
     ensures label { K.label sink.new ≡ K.label sink.old }

@@ -23,7 +23,12 @@ pub fn serve_client<S: Store, K: Sinks>(
     ensures served { (start : Place) → S.stands store.old start
         → (went : Went) × (S.stands store.new went.place
         × (went.served ≡ result)
-        × IsServed (record { session = S.session store.old; start = start; name = name.now; commands = commands.items })
+        × IsServed (record {
+          session = S.session store.old;
+          start = start;
+          name = name.now;
+          commands = commands.items;
+        })
         (sinks_told K.Sinks sinks.old) (sinks_told K.Sinks sinks.new) went) }
     ensures session { S.session store.new ≡ S.session store.old }
     ensures touched { S.touched store.old store.new }

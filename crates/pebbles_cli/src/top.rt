@@ -4,12 +4,13 @@ ghost use Rattle.peb_base.specs.Batches.{Batches};
 ghost use Rattle.peb_base.specs.Faults.{Rose};
 ghost use Rattle.flsm_core.specs.Opening.{OpensOn};
 ghost use Rattle.flsm_core.specs.Place.{start_at};
+ghost use Rattle.flsm_core.specs.Range.{Range, AreIn};
 ghost use Rattle.script.specs.Cause.{status_of};
 ghost use Rattle.script.specs.declared.cause.Cause.TheVariants as causes;
 ghost use Rattle.pebbles_cli.specs.Words.{run_words};
 ghost use Rattle.pebbles_cli.specs.Causes.{PlayCause, IsBeforeOpening};
 ghost use Rattle.pebbles_cli.specs.Outside.{outside};
-ghost use Rattle.pebbles_cli.specs.Top.{Asked, Plays, PlaysSomehow};
+ghost use Rattle.pebbles_cli.specs.Top.{Asked, Plays, PlaysIn, PlaysSomehow};
 
 use crate::ended::Ended;
 use crate::read_commands::read_commands;
@@ -30,8 +31,15 @@ fn play<D: Devices, S: Scripts, K: Sinks>(
 ) -> Cause
     // what it does
     ensures ran { IsTrue D.J.tells → (honest : Bool) (base : Batches)
-        → OpensOn Small honest base (D.journal_told devices.old).seen (D.journal_told devices.old).may_leave
+        → OpensOn Small honest base (D.journal_told devices.old).seen
+        (D.journal_told devices.old).may_leave
         → Plays (start_at (D.journal_told devices.old) Small honest base)
+        (record { dir = dir.now; file = file.now; text = S.text scripts.old file.now })
+        (outside D.J.Journal D.Devices K.Sinks devices.old sinks.old)
+        (outside D.J.Journal D.Devices K.Sinks devices.new sinks.new) result }
+    ensures within { IsTrue D.J.tells → (range : Range) → range.profile ≡ Small
+        → AreIn range (D.journal_told devices.old).may_leave
+        → PlaysIn range
         (record { dir = dir.now; file = file.now; text = S.text scripts.old file.now })
         (outside D.J.Journal D.Devices K.Sinks devices.old sinks.old)
         (outside D.J.Journal D.Devices K.Sinks devices.new sinks.new) result }
@@ -74,12 +82,19 @@ pub fn top_plain<D: Devices, S: Scripts, K: Sinks>(
     scripts: &mut S,
     sinks: &mut K,
 ) -> Ended<D>
-    // what it does: over a base that each image stood for, or that is read; and over some base in
-    // any case
+    // what it does: over a base that each image stood for, or that is read; over what is read,
+    // where images differ within a range; and over some base in any case
     ensures ran { IfSome (run_words (map string_bytes words.now)) (λ names. IsTrue D.J.tells
         → (honest : Bool) (base : Batches)
         → OpensOn Small honest base (D.journal_told devices).seen (D.journal_told devices).may_leave
         → Plays (start_at (D.journal_told devices) Small honest base)
+        (record { dir = names.0; file = names.1; text = S.text scripts.old names.1 })
+        (outside D.J.Journal D.Devices K.Sinks devices sinks.old)
+        (outside D.J.Journal D.Devices K.Sinks result.devices sinks.new) result.cause) }
+    ensures within { IfSome (run_words (map string_bytes words.now)) (λ names. IsTrue D.J.tells
+        → (range : Range) → range.profile ≡ Small
+        → AreIn range (D.journal_told devices).may_leave
+        → PlaysIn range
         (record { dir = names.0; file = names.1; text = S.text scripts.old names.1 })
         (outside D.J.Journal D.Devices K.Sinks devices sinks.old)
         (outside D.J.Journal D.Devices K.Sinks result.devices sinks.new) result.cause) }

@@ -35,7 +35,8 @@ pub fn write<S: Store>(
 ) -> Result<Number, WriteFault>
     requires { (p : Place) × S.stands store.old p }
     ensures stands { (p : Place) → S.stands store.old p
-        → S.stands store.new (after_write (S.session store.old) p (put_op key value ∷ []) sync result) }
+        → S.stands store.new
+        (after_write (S.session store.old) p (put_op key value ∷ []) sync result) }
     ensures answers { (p : Place) → S.stands store.old p
         → Writes (S.session store.old) p (put_op key value ∷ []) sync result }
     ensures session { S.session store.new ≡ S.session store.old }

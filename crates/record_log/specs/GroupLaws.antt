@@ -24,7 +24,8 @@ placed-push at [] group = append-nil (map (λ body. (at, body)) group)
 placed-push at (first ∷ groups) group =
     let there : at + length (group_bytes first) + length (groups_bytes groups)
     ≡ at + length (group_bytes first
-    ++ groups_bytes groups) = omega (arith, length-append (group_bytes first) (groups_bytes groups)) in
+    ++ groups_bytes groups) =
+    omega (arith, length-append (group_bytes first) (groups_bytes groups)) in
     ap (λ l. map (λ body. (at, body)) first
     ++ l) (placed-push (at + length (group_bytes first)) groups group)
     ∙ sym (append_assoc (map (λ body. (at, body)) first)

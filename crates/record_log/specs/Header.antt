@@ -28,4 +28,5 @@ IsHeaderOf ManifestB h = (h.kind ≡ 77) × (h.form ≡ 1) × (h.number ≡ 1) �
 
 -- the header of a log
 abbrev pub log_header : Profile → ℕ → ℕ → Header
-log_header profile number session = record { kind = 76; form = 1; profile = profile; number = number; session = session }
+log_header profile number session =
+    record { kind = 76; form = 1; profile = profile; number = number; session = session }

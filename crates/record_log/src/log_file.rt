@@ -100,7 +100,8 @@ impl LogFile {
         ensures fault { IsErrOf result LogFault.Fault
             → Rose (J.faults journal.old) (J.faults journal.new) }
         ensures later { J.faults journal.old ≤ J.faults journal.new }
-        ensures kept { OnOk result (Keeps file (J.seen journal.old file) (J.may_leave journal.new)) }
+        ensures kept { OnOk result (Keeps file (J.seen journal.old file)
+            (J.may_leave journal.new)) }
         ensures seen { J.seen journal.new ≡ J.seen journal.old }
         ensures any_moment { Follows (In file Stays) (J.may_leave journal.old)
             (J.left_since journal.new (J.moment journal.old)) }
@@ -169,11 +170,13 @@ impl LogFile {
             (bodies : List (List ℕ))
             → IsReady J.tells J.seen J.may_leave journal.old self.old header groups
             → log_tail self.old ≡ records_bytes bodies
-            → IsReady J.tells J.seen J.may_leave journal.new self.new header (with_group groups bodies)) }
+            → IsReady J.tells J.seen J.may_leave journal.new self.new header
+            (with_group groups bodies)) }
         ensures tail { OnOk result (log_tail self.new ≡ []) }
         ensures room { OnOk result (log_room self.old ≤ log_room self.new) }
         ensures file { log_file self.new ≡ log_file self.old }
-        ensures any_moment { (header : Header) (groups : List (List (List ℕ))) (bodies : List (List ℕ))
+        ensures any_moment { (header : Header) (groups : List (List (List ℕ)))
+            (bodies : List (List ℕ))
             → IsReady J.tells J.seen J.may_leave journal.old self.old header groups
             → log_tail self.old ≡ records_bytes bodies
             → Follows (In (log_file self.old)

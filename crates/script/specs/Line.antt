@@ -19,7 +19,8 @@ words_of line = slice_split (λ b. b == 32) line
 
 -- a key has 1 to 1024 bytes
 abbrev pub key_of : List ℕ → Result (List ℕ) Why
-key_of bytes = if (length bytes == 0) || nat_lt 1024 (length bytes) then Err whys.Command else Ok bytes
+key_of bytes =
+    if (length bytes == 0) || nat_lt 1024 (length bytes) then Err whys.Command else Ok bytes
 
 -- a value has at most 32768 bytes
 abbrev pub value_of : List ℕ → Result (List ℕ) Why

@@ -81,7 +81,8 @@ bytes_in (c ∷ h ∷ []) = if is_plain_byte c then onto c (bytes_in (h ∷ []))
 bytes_in (c ∷ h ∷ l ∷ cs) =
     if is_plain_byte c then onto c (bytes_in (h ∷ l ∷ cs))
     else if c == 37 then option_and_then
-    (λ high. option_and_then (λ low. onto (high * 16 + low) (bytes_in cs)) (hex_value l)) (hex_value h)
+    (λ high. option_and_then (λ low. onto (high * 16 + low) (bytes_in cs)) (hex_value l))
+    (hex_value h)
     else None
 
 -- the string that a token spells

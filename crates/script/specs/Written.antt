@@ -12,7 +12,8 @@ line_text words = join_with_byte 32 words ++ 10 ∷ []
 
 -- the words of a command
 abbrev pub command_words : Command → List (List ℕ)
-command_words (commands.Put key value sync) = (if sync then codes "put!" else codes "put") ∷ token_text key ∷ token_text value ∷ []
+command_words (commands.Put key value sync) =
+    (if sync then codes "put!" else codes "put") ∷ token_text key ∷ token_text value ∷ []
 command_words (commands.Get key) = codes "get" ∷ token_text key ∷ []
 
 -- the line of a command

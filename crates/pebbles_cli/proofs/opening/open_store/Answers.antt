@@ -6,7 +6,7 @@ use Rattle.flsm_core.specs.Logs.{ReadsAs}
 use Rattle.flsm_core.specs.Standing.{IsAt}
 use Rattle.flsm_core.specs.State.{state_session, state_journal, state_file}
 use Rattle.flsm_core.specs.Touched.{next_log_on, touched_self}
-use Rattle.pebbles_cli.proofs.Handing.{same_then, watched_same, touches_between, opens_same, starts_same, opens_read, next_of}
+use Rattle.pebbles_cli.proofs.Handing.{same_then, watched_same, touches_between, opens_same, starts_same, opens_read, next_of, starts_in_same, in_between, in_same}
 use Rattle.pebbles_cli.proofs.opening.open_store.Goals as goal
 
 pub returns-in-Ok-open-clause-stands : goal.returns-in-Ok-open-clause-stands
@@ -44,3 +44,34 @@ returns-in-Err-clause-next_log_err g c =
     let mid = told_by g.D.J.Journal c.in-Ok-journal.journal in
     touches_between g.D.J.Journal.tells old mid (told_by g.D.J.Journal c.in-Err.refused.1) (g.D.Devices.journal_told c.back.new.self)
     (same_then c.set.ensures.told c.in-Ok-journal.ensures.journal) c.in-Err.ensures.next_log_err c.back.ensures.told
+
+pub returns-in-Ok-open-clause-within : goal.returns-in-Ok-open-clause-within
+returns-in-Ok-open-clause-within g c = λ told range asked on.
+    let old = g.D.Devices.journal_told c.args.devices.now in
+    let mid = told_by g.D.J.Journal c.in-Ok-journal.journal in
+    let same = same_then c.set.ensures.told c.in-Ok-journal.ensures.journal in
+    let state = c.in-Ok-open.state in
+    let within = c.in-Ok-open.ensures.within told range asked (λ image left. on image ((same.images image).0 left)) in (
+      within.start,
+      starts_in_same range old mid within.start same within.starts,
+      within.stands,
+      next_of old.seen mid.seen (state_session state) same.bytes (c.in-Ok-open.ensures.session told),
+      c.in-Ok-open.ensures.fresh told within.start.base (subst (λ p. ReadsAs p within.start.base mid.seen) asked within.starts.reads),
+    )
+
+pub returns-in_default-clause-ever_within : goal.returns-in_default-clause-ever_within
+returns-in_default-clause-ever_within g c = λ told range asked on.
+    in_same range (g.D.Devices.journal_told c.args.devices.now) (g.D.Devices.journal_told c.set.new.self) (g.met.D.Devices.only_now c.args.devices.now) c.set.ensures.told on
+
+pub returns-in_default-journal-clause-ever_within : goal.returns-in_default-journal-clause-ever_within
+returns-in_default-journal-clause-ever_within g c = λ told range asked on.
+    in_same range (g.D.Devices.journal_told c.args.devices.now) (g.D.Devices.journal_told c.journal.new.self) (g.met.D.Devices.only_now c.args.devices.now)
+    (same_then c.set.ensures.told c.in_default-journal.ensures.told) on
+
+pub returns-in-Err-clause-ever_within : goal.returns-in-Err-clause-ever_within
+returns-in-Err-clause-ever_within g c = λ told range asked on.
+    let old = g.D.Devices.journal_told c.args.devices.now in
+    let mid = told_by g.D.J.Journal c.in-Ok-journal.journal in
+    let same = same_then c.set.ensures.told c.in-Ok-journal.ensures.journal in
+    in_between range old mid (told_by g.D.J.Journal c.in-Err.refused.1) (g.D.Devices.journal_told c.back.new.self) same c.back.ensures.told
+    (c.in-Err.ensures.images_within told range asked (λ image left. on image ((same.images image).0 left)))

@@ -7,7 +7,7 @@ use Rattle.pebbles_cli.specs.declared.served.Served.{Served}
 use Rattle.pebbles_cli.specs.Outside.{outside, devices_told}
 use Rattle.pebbles_cli.specs.Tells.{sync_cause}
 use Rattle.pebbles_cli.specs.Causes.{end_of}
-use Rattle.pebbles_cli.proofs.Handing.{nothing_opened, tables_then}
+use Rattle.pebbles_cli.proofs.Handing.{nothing_opened, tables_then, tells_itself, in_same}
 use Rattle.pebbles_cli.proofs.Running.{ran_of, touched_all, ran_after, opening_after}
 use Rattle.pebbles_cli.proofs.run.run_commands.Goals as goal
 
@@ -108,3 +108,54 @@ returns-clause-after_opening g c = λ before.
     let closed = c.close_run.ensures.closed served.0.place served.1.0 in
     ran_after _ old mid new served.0 closed.0 c.close_run.result served.1.2 closed.1.0
     (closed.1.1 ∙ ap (λ (s : Served). end_of s.fault s.sink_failed (sync_cause closed.0.answer) closed.0.report) (sym served.1.1)) before
+
+pub returns-in_default-clause-within : goal.returns-in_default-clause-within
+returns-in_default-clause-within g c = λ told text short says range asked on.
+    let journal = g.D.Devices.journal_told c.args.devices.now in inl (
+      nothing_opened _ (outside g.D.J.Journal g.D.Devices g.K.Sinks c.args.devices.now c.args.sinks.now) _ (g.met.D.Devices.counts_now c.args.devices.now) (g.met.D.Devices.only_now c.args.devices.now) (inl tt),
+      in_same range journal journal (g.met.D.Devices.only_now c.args.devices.now) (tells_itself journal) on,
+    )
+
+pub returns-in_default-new-clause-within : goal.returns-in_default-new-clause-within
+returns-in_default-new-clause-within g c = λ told text short says range asked on.
+    let journal = g.D.Devices.journal_told c.args.devices.now in inl (
+      nothing_opened _ (outside g.D.J.Journal g.D.Devices g.K.Sinks c.args.devices.now c.args.sinks.now) _ (g.met.D.Devices.counts_now c.args.devices.now) (g.met.D.Devices.only_now c.args.devices.now) (inl tt),
+      in_same range journal journal (g.met.D.Devices.only_now c.args.devices.now) (tells_itself journal) on,
+    )
+
+pub returns-in-Err-clause-within : goal.returns-in-Err-clause-within
+returns-in-Err-clause-within g c = λ told text short says range asked on. inl (
+  record {
+    why = inr ((short, (c.args.commands.items, says)), c.in-Err.ensures.cause);
+    directory = c.in-Err.ensures.refused;
+    sinks = refl;
+    untouched = c.in-Err.ensures.untouched;
+    touched = c.in-Err.ensures.next_log_err;
+    ever = c.in-Err.ensures.ever;
+    now = λ t base on image left. c.in-Err.ensures.ever t base on image (g.met.D.Devices.counts_now c.open_store.new.devices _ image c.in-Err.ensures.later left);
+    tables = c.open_store.ensures.tables;
+  },
+  c.in-Err.ensures.ever_within told range asked on,
+)
+
+pub returns-clause-within : goal.returns-clause-within
+returns-clause-within g c = λ told text short says range asked on.
+    let old = outside g.D.J.Journal g.D.Devices g.K.Sinks c.args.devices.now c.args.sinks.now in
+    let mid = outside g.D.J.Journal g.D.Devices g.K.Sinks c.open_store.new.devices c.serve_client-served.new.sinks in
+    let new = outside g.D.J.Journal g.D.Devices g.K.Sinks c.close_run.new.devices c.close_run.new.sinks in
+    let state = c.in-Ok-open_store.ensures.within told range asked on in
+    let start : Start = state.0 in
+    let served = c.serve_client-served.ensures.served (opened start) state.2 in
+    let closed = c.close_run.ensures.closed served.0.place served.1.0 in
+    inr (
+      start,
+      state.1,
+      ran_of start _ old mid new c.close_run.result (state_session c.in-Ok-open_store.state) c.args.commands.items c.as_str.result.now served.0 closed.0 short says (λ t. state.3) state.4 c.in-Ok-open_store.ensures.possible
+          (c.close_run.ensures.directories ∙ c.in-Ok-open_store.ensures.opened) (c.as_str.ensures.value ∙ c.in-Ok.ensures) served.1.2 closed.1.0
+          c.serve_client-served.ensures.report c.serve_client-served.ensures.never_falls
+          (closed.1.1 ∙ ap (λ (s : Served). end_of s.fault s.sink_failed (sync_cause closed.0.answer) closed.0.report) (sym served.1.1))
+          (state_file c.in-Ok-open_store.state) (touched_all g.D.J.Journal.tells (state_file c.in-Ok-open_store.state) (state_file c.serve_client-served.new.store) old.devices.journal
+          (told_by g.D.J.Journal (state_journal c.in-Ok-open_store.state)) (told_by g.D.J.Journal (state_journal c.serve_client-served.new.store)) new.devices.journal
+          c.in-Ok-open_store.ensures.next_log c.serve_client-served.ensures.touched c.close_run.ensures.touched)
+          (tables_then c.open_store.ensures.tables c.close_run.ensures.tables),
+    )

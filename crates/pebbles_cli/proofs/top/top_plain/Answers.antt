@@ -38,3 +38,8 @@ returns-clause-unread g c = λ usage.
     let new = outside g.D.J.Journal g.D.Devices g.K.Sinks c.play-cause.new.devices c.play-cause.new.sinks in
     absurd (play_not_usage (g.S.Scripts.text c.args.scripts.now c.in-Some.names.file.now) old new c.play-cause.result
     (somehow_cause _ old new c.play-cause.result c.play-cause.ensures.somehow) (sym c.new-2.ensures.cause ∙ usage))
+
+pub returns-clause-within : goal.returns-clause-within
+returns-clause-within g c =
+    let named : run_words (map string_bytes c.args.words.now) ≡ Some (c.in-Some.names.dir.now, c.in-Some.names.file.now) = sym c.in-Some.ensures in
+    rw (named, c.new-2.ensures.cause, c.new-2.ensures.devices) c.play-cause.ensures.within

@@ -173,13 +173,15 @@ returns-in-Ok-clause-within g c = both_ok c.begin.result _ _ _ _ (λ state at ti
     (range_has_read fin one batch d old new range found.0 found.1 read_there on (g.met.J.Journal.counts_now new) (g.met.J.Journal.only_now new) (g.met.J.Journal.read_is_left new told)) in
     record {
       start = begun;
-      profile = refl;
-      sure = refl;
-      enough = inside.enough;
-      within = inside.within;
-      reads = (found.0, read_there.reads);
-      began = c.read_logs.ensures.watched.time.later;
-      counted = c.read_logs.ensures.later;
+      starts = record {
+        profile = refl;
+        sure = refl;
+        enough = inside.enough;
+        within = inside.within;
+        reads = (found.0, read_there.reads);
+        began = c.read_logs.ensures.watched.time.later;
+        counted = c.read_logs.ensures.later;
+      };
       stands = stands;
       since = range_since fin one batch d old new range found.0 found.1 read_there on state.journal time
           (λ image left. leaves_in range found.1 image inside (stands.since told refl image left));
