@@ -133,8 +133,12 @@ fn take_all<W: Wait + Clone + Drop>(
 }
 
 /// What steps on the journal of a new opening told.
-fn steps_of(rt: HostRuntime, first: First, steps: &[Step]) -> Result<Told, Fail> {
-    let alloc = rt.alloc();
+fn steps_of<W: Wait + Clone + Drop>(
+    rt: W,
+    alloc: Global,
+    first: First,
+    steps: &[Step],
+) -> Result<Told, Fail> {
     let seen = seen_at(alloc, first)?;
     let folder = folder_over(rt, alloc, &seen)?;
     let _ = folder.keep_others_out();
@@ -153,7 +157,7 @@ fn names_are_synced_with_files(rt: HostRuntime) -> Result<(), Fail> {
         Step::Drop,
         Step::Sync,
     ];
-    let told = steps_of(rt, First::Nothing, &steps)?;
+    let told = steps_of(rt, rt.alloc(), First::Nothing, &steps)?;
     assert_eq!(rt; told.ok, [true, true, true, true, true, true, true, false]);
     assert_eq!(rt; told.syncs[0], (0, 0, 0), "nothing is there");
     assert_eq!(rt; told.syncs[1], (0, 0, 1), "a new directory");
@@ -166,8 +170,8 @@ fn names_are_synced_with_files(rt: HostRuntime) -> Result<(), Fail> {
 
 #[test]
 fn names_of_an_earlier_run_are_synced(rt: HostRuntime) -> Result<(), Fail> {
-    let first = steps_of(rt, First::Folder, &[Step::Sync, Step::Write])?;
-    let second = steps_of(rt, First::File, &[Step::Sync, Step::Write])?;
+    let first = steps_of(rt, rt.alloc(), First::Folder, &[Step::Sync, Step::Write])?;
+    let second = steps_of(rt, rt.alloc(), First::File, &[Step::Sync, Step::Write])?;
     assert_eq!(rt; first.syncs[0], (0, 1, 0), "an absent file");
     assert_eq!(rt;
         first.syncs[1],
@@ -188,7 +192,7 @@ fn no_sync_after_a_failed_one_is_trusted(rt: HostRuntime) -> Result<(), Fail> {
         Step::Sync,
         Step::Drop,
     ];
-    let told = steps_of(rt, First::Nothing, &steps)?;
+    let told = steps_of(rt, rt.alloc(), First::Nothing, &steps)?;
     assert_eq!(rt;
         told.ok,
         [true, true, false, true, false, false, false, false]
@@ -208,7 +212,7 @@ fn no_file_is_made_where_the_name_of_its_directory_is_not_stable(
         Step::FailSyncs(false),
         Step::Write,
     ];
-    let told = steps_of(rt, First::Nothing, &steps)?;
+    let told = steps_of(rt, rt.alloc(), First::Nothing, &steps)?;
     assert_eq!(rt;
         told.ok,
         [true, false, true, false, false, false, false, false]
@@ -219,16 +223,15 @@ fn no_file_is_made_where_the_name_of_its_directory_is_not_stable(
 
 #[test]
 fn a_directory_in_use_is_not_opened_and_not_made(rt: HostRuntime) -> Result<(), Fail> {
-    let alloc = rt.alloc();
-    let told = steps_of(rt, First::Taken, &[Step::Write])?;
-    let opened = is_opened(rt, alloc)?;
+    let told = steps_of(rt, rt.alloc(), First::Taken, &[Step::Write])?;
+    let opened = is_opened(rt, rt.alloc())?;
     assert!(rt; !told.ok[0] && !opened);
     assert!(rt; !told.has_file);
     Ok(())
 }
 
 /// Whether a directory is opened in which another is.
-fn is_opened(rt: HostRuntime, alloc: Global) -> Result<bool, Fail> {
+fn is_opened<W: Wait + Clone + Drop>(rt: W, alloc: Global) -> Result<bool, Fail> {
     let seen = seen_at(alloc, First::Taken)?;
     seen.has_folder.set(true);
     let folder = folder_over(rt, alloc, &seen)?;
@@ -237,7 +240,12 @@ fn is_opened(rt: HostRuntime, alloc: Global) -> Result<bool, Fail> {
 
 #[test]
 fn a_directory_that_another_made_meanwhile_is_left_alone(rt: HostRuntime) -> Result<(), Fail> {
-    let early = steps_of(rt, First::Nothing, &[Step::MakeFolder, Step::Write])?;
+    let early = steps_of(
+        rt,
+        rt.alloc(),
+        First::Nothing,
+        &[Step::MakeFolder, Step::Write],
+    )?;
     let steps = [
         Step::MakeFolder,
         Step::MakeFile,
@@ -245,7 +253,7 @@ fn a_directory_that_another_made_meanwhile_is_left_alone(rt: HostRuntime) -> Res
         Step::Size,
         Step::Drop,
     ];
-    let told = steps_of(rt, First::Nothing, &steps)?;
+    let told = steps_of(rt, rt.alloc(), First::Nothing, &steps)?;
     assert!(rt; !early.ok[1] && !early.has_file);
     assert!(rt; !told.ok[2] && told.has_file);
     Ok(())
@@ -259,7 +267,7 @@ fn a_log_that_may_only_be_read_is_read(rt: HostRuntime) -> Result<(), Fail> {
         Step::Read,
         Step::Write,
     ];
-    let told = steps_of(rt, First::File, &by_mode)?;
+    let told = steps_of(rt, rt.alloc(), First::File, &by_mode)?;
     assert_eq!(rt;
         told.ok,
         [true, true, true, false, false, false, false, false]
@@ -276,14 +284,14 @@ fn a_log_on_a_read_only_file_system_is_read(rt: HostRuntime) -> Result<(), Fail>
         Step::Read,
         Step::Write,
     ];
-    let told = steps_of(rt, First::File, &opened_so)?;
+    let told = steps_of(rt, rt.alloc(), First::File, &opened_so)?;
     let meanwhile = [
         Step::Write,
         Step::Forbid(ErrorKind::ReadOnlyFilesystem),
         Step::Write,
         Step::Read,
     ];
-    let later = steps_of(rt, First::File, &meanwhile)?;
+    let later = steps_of(rt, rt.alloc(), First::File, &meanwhile)?;
     assert_eq!(rt;
         told.ok,
         [true, true, true, false, false, false, false, false]
@@ -305,8 +313,8 @@ fn a_read_and_a_write_go_on_after_a_signal(rt: HostRuntime) -> Result<(), Fail> 
         Step::Interrupt,
         Step::Read,
     ];
-    let told = steps_of(rt, First::Nothing, &steps)?;
-    let table = sealed_after(rt, Step::Interrupt)?;
+    let told = steps_of(rt, rt.alloc(), First::Nothing, &steps)?;
+    let table = sealed_after(rt, rt.alloc(), Step::Interrupt)?;
     assert_eq!(rt;
         told.ok,
         [true, true, true, true, true, false, false, false]
@@ -325,7 +333,7 @@ fn a_new_log_whose_name_was_not_synced_is_not_stable(rt: HostRuntime) -> Result<
         Step::FailFolderSyncs(false),
         Step::Sync,
     ];
-    let told = steps_of(rt, First::Nothing, &steps)?;
+    let told = steps_of(rt, rt.alloc(), First::Nothing, &steps)?;
     assert_eq!(rt;
         told.ok,
         [true, true, false, true, false, false, false, false]
@@ -344,7 +352,7 @@ fn no_sync_after_a_failed_removal_is_trusted(rt: HostRuntime) -> Result<(), Fail
         Step::Drop,
         Step::Sync,
     ];
-    let told = steps_of(rt, First::Nothing, &steps)?;
+    let told = steps_of(rt, rt.alloc(), First::Nothing, &steps)?;
     assert_eq!(rt;
         told.ok,
         [true, true, true, false, true, false, false, false]
@@ -395,8 +403,7 @@ fn make<M: Maker>(
 }
 
 /// What the making of a table told, where this happens once it is begun.
-fn sealed_after(rt: HostRuntime, step: Step) -> Result<Sealed, Fail> {
-    let alloc = rt.alloc();
+fn sealed_after<W: Wait + Clone + Drop>(rt: W, alloc: Global, step: Step) -> Result<Sealed, Fail> {
     let seen = seen_at(alloc, First::Nothing)?;
     let mut maker = RealMaker::new(folder_over(rt, alloc, &seen)?)?;
     let made = make(&mut maker, &seen, step);
@@ -415,7 +422,7 @@ fn sealed_after(rt: HostRuntime, step: Step) -> Result<Sealed, Fail> {
 
 #[test]
 fn a_table_is_sealed_by_syncs_of_its_file_and_its_name(rt: HostRuntime) -> Result<(), Fail> {
-    let told = sealed_after(rt, Step::Size)?;
+    let told = sealed_after(rt, rt.alloc(), Step::Size)?;
     assert!(rt; told.is_sealed);
     assert_eq!(rt; (told.before, told.after), ((0, 0, 1), (1, 1, 1)));
     Ok(())
@@ -423,7 +430,7 @@ fn a_table_is_sealed_by_syncs_of_its_file_and_its_name(rt: HostRuntime) -> Resul
 
 #[test]
 fn no_table_is_sealed_after_a_failed_sync(rt: HostRuntime) -> Result<(), Fail> {
-    let told = sealed_after(rt, Step::FailSyncs(true))?;
+    let told = sealed_after(rt, rt.alloc(), Step::FailSyncs(true))?;
     assert!(rt; !told.is_sealed && !told.again);
     assert_eq!(rt; (told.faults, told.after), (2, (0, 0, 1)));
     Ok(())
@@ -431,7 +438,7 @@ fn no_table_is_sealed_after_a_failed_sync(rt: HostRuntime) -> Result<(), Fail> {
 
 #[test]
 fn no_table_is_sealed_whose_name_was_not_synced(rt: HostRuntime) -> Result<(), Fail> {
-    let told = sealed_after(rt, Step::FailFolderSyncs(true))?;
+    let told = sealed_after(rt, rt.alloc(), Step::FailFolderSyncs(true))?;
     assert!(rt; !told.is_sealed && !told.again);
     Ok(())
 }
@@ -465,8 +472,11 @@ fn table_then_log<J: Journal, M: Maker>(
 }
 
 /// The one or the other over a journal and a maker of one directory.
-fn over_one(rt: HostRuntime, log_first: bool) -> Result<(bool, bool), Fail> {
-    let alloc = rt.alloc();
+fn over_one<W: Wait + Clone + Drop>(
+    rt: W,
+    alloc: Global,
+    log_first: bool,
+) -> Result<(bool, bool), Fail> {
     let seen = seen_at(alloc, First::Nothing)?;
     let folder = folder_over(rt, alloc, &seen)?;
     let mut maker = RealMaker::new(folder.copy()?)?;
@@ -483,16 +493,15 @@ fn over_one(rt: HostRuntime, log_first: bool) -> Result<(bool, bool), Fail> {
 fn a_failed_sync_of_names_is_shared_by_the_journal_and_the_makers(
     rt: HostRuntime,
 ) -> Result<(), Fail> {
-    let log_first = over_one(rt, true)?;
-    let table_first = over_one(rt, false)?;
+    let log_first = over_one(rt, rt.alloc(), true)?;
+    let table_first = over_one(rt, rt.alloc(), false)?;
     assert_eq!(rt; log_first, (false, false));
     assert_eq!(rt; table_first, (false, false));
     Ok(())
 }
 
 /// The numbers that a port of the watched directory lists.
-fn numbers_of(rt: HostRuntime) -> Result<Vec<u64>, Fail> {
-    let alloc = rt.alloc();
+fn numbers_of<W: Wait + Clone + Drop>(rt: W, alloc: Global) -> Result<Vec<u64>, Fail> {
     let seen = seen_at(alloc, First::Folder)?;
     let folder = folder_over(rt, alloc, &seen)?;
     let _ = folder.keep_others_out();
@@ -502,7 +511,7 @@ fn numbers_of(rt: HostRuntime) -> Result<Vec<u64>, Fail> {
 
 #[test]
 fn names_that_are_no_tables_are_skipped(rt: HostRuntime) -> Result<(), Fail> {
-    let numbers = numbers_of(rt)?;
+    let numbers = numbers_of(rt, rt.alloc())?;
     assert_eq!(rt; numbers.as_slice(), [TABLE, TABLE + 1].as_slice());
     Ok(())
 }

@@ -29,14 +29,15 @@ fn names_in(rt: &HostRuntime, name: &str) -> Result<Vec<String>, Fail> {
 }
 
 /// What a table made by a maker told: how many are listed before, the bytes taken, whether a table
-/// of a number that is there is begun, the numbers that are listed after, whether each of both is
-/// found, and two reads.
+/// of a number that is there is begun, how many are listed after and whether the sealed one is, which
+/// of both weren't found while they were begun, and two reads.
+#[derive(Clone, Copy)]
 struct Made {
     before: usize,
     early: bool,
     taken: u64,
     again: bool,
-    after: Vec<u64>,
+    after: (usize, bool),
     unsealed: bool,
     read: (usize, [u8; 4], usize),
 }
@@ -70,7 +71,8 @@ fn made_by<M: Maker, P: Port<File = M::File>>(maker: &mut M, port: &mut P) -> Re
     let again = maker.begin(NUMBER + 1).is_err();
     let unsealed = port.find(NUMBER)?.is_none();
     let read = read(port)?;
-    let after = port.list()?;
+    let numbers = port.list()?;
+    let after = (numbers.len(), numbers.contains(&(NUMBER + 1)));
     Ok(Made {
         before,
         early,
@@ -83,7 +85,10 @@ fn made_by<M: Maker, P: Port<File = M::File>>(maker: &mut M, port: &mut P) -> Re
 }
 
 /// What a table told that is made in a directory of this name.
-fn made_in(rt: HostRuntime, name: &str) -> Result<Made, Fail> {
+fn made_in<R>(rt: R, name: &str) -> Result<Made, Fail>
+where
+    R: Files<File: KeepOut + Send + Sync> + Wait + AllocGlobal + Clone + Drop + Send + Sync,
+{
     let mut devices = devices_over(rt, name)?;
     let mut port = devices.port()?;
     let mut maker = devices.maker()?;
@@ -104,7 +109,7 @@ fn a_sealed_table_is_a_file_that_is_found_and_read(rt: HostRuntime) -> Result<()
     assert_eq!(rt; made.taken, 11);
     assert!(rt; made.early, "begun, and not found");
     assert!(rt; made.again, "a table is there");
-    assert_eq!(rt; made.after.as_slice(), [NUMBER + 1].as_slice());
+    assert_eq!(rt; made.after, (1, true));
     assert!(rt; made.unsealed);
     assert_eq!(rt; made.read, (4, *b"thre", 1));
     assert_eq!(rt; text.as_str(), "twothree");
@@ -112,12 +117,12 @@ fn a_sealed_table_is_a_file_that_is_found_and_read(rt: HostRuntime) -> Result<()
     Ok(())
 }
 
-/// How many tables are listed while a handle of a retired one is there, whether the other one alone
-/// is listed then, and how many once that was removed twice.
+/// How many tables are listed while a handle of a retired one is there, how many then and whether the
+/// other one is, and how many once that was removed twice.
 fn take_away<M: Maker, P: Port<File = M::File>>(
     maker: &mut M,
     port: &mut P,
-) -> Result<(usize, Vec<u64>, usize), Fail> {
+) -> Result<(usize, (usize, bool), usize), Fail> {
     maker.begin(NUMBER)?;
     let first = maker.seal()?;
     maker.begin(NUMBER + 1)?;
@@ -127,13 +132,17 @@ fn take_away<M: Maker, P: Port<File = M::File>>(
     drop(first);
     let held = port.list()?.len();
     drop(second);
-    let let_go = port.list()?;
+    let numbers = port.list()?;
+    let let_go = (numbers.len(), numbers.contains(&(NUMBER + 1)));
     maker.remove(NUMBER + 1)?;
     maker.remove(NUMBER + 1)?;
     Ok((held, let_go, port.list()?.len()))
 }
 
-fn taken_away_in(rt: HostRuntime, name: &str) -> Result<(usize, Vec<u64>, usize), Fail> {
+fn taken_away_in<R>(rt: R, name: &str) -> Result<(usize, (usize, bool), usize), Fail>
+where
+    R: Files<File: KeepOut + Send + Sync> + Wait + AllocGlobal + Clone + Drop + Send + Sync,
+{
     let mut devices = devices_over(rt, name)?;
     let mut port = devices.port()?;
     let mut maker = devices.maker()?;
@@ -151,7 +160,7 @@ fn a_retired_table_goes_with_its_last_handle_and_a_removed_one_at_once(
     let (held, let_go, removed) = taken_away_in(rt, name)?;
     fs::remove_dir_all(&rt, name)?;
     assert_eq!(rt; held, 2, "another handle is there");
-    assert_eq!(rt; let_go.as_slice(), [NUMBER + 1].as_slice());
+    assert_eq!(rt; let_go, (1, true));
     assert_eq!(rt; removed, 0);
     Ok(())
 }
@@ -172,7 +181,10 @@ fn fork_holds<M: Maker, P: Port<File = M::File>>(
     Ok((held, port.list()?.len()))
 }
 
-fn forked_in(rt: HostRuntime, name: &str) -> Result<(usize, usize), Fail> {
+fn forked_in<R>(rt: R, name: &str) -> Result<(usize, usize), Fail>
+where
+    R: Files<File: KeepOut + Send + Sync> + Wait + AllocGlobal + Clone + Drop + Send + Sync,
+{
     let mut devices = devices_over(rt, name)?;
     let mut maker = devices.maker()?;
     let mut port = devices.port()?;

@@ -24,6 +24,14 @@ level 2 tables 0 entries 0 bytes 0 cuts 0 short 0 lost 0
 level 3 tables 0 entries 0 bytes 0 cuts 0 short 0 lost 0
 ";
 
+/// The report of a run after which the last number is 2.1.
+const SECOND_REPORT: &[u8] = b"last 2.1
+level 0 tables 0 entries 0 bytes 0 cuts 0 short 0 lost 0
+level 1 tables 0 entries 0 bytes 0 cuts 0 short 0 lost 0
+level 2 tables 0 entries 0 bytes 0 cuts 0 short 0 lost 0
+level 3 tables 0 entries 0 bytes 0 cuts 0 short 0 lost 0
+";
+
 /// The log of a store in which `a` was set to `1`.
 const LOG: &[u8] =
     b"\x01FLSML\x01\x01\0\0\0\0\0\0\0\x01\0\0\0\0\0\0\0\x01\x01\0\0\0\x17\0\0\0\x13\0\0\x01\0\0\0\0\x01\0\x01\x01\0\x01a\0\0\0\x011\0";
@@ -157,203 +165,282 @@ fn failing(alloc: Global, call: u64) -> Result<FailPlan, Fail> {
     })
 }
 
-/// The log with another byte at one place.
-fn log_with(alloc: Global, place: usize, byte: u8) -> Result<Vec<u8>, Fail> {
+/// The log with other bytes at these places.
+fn log_with(alloc: Global, changes: &[(usize, u8)]) -> Result<Vec<u8>, Fail> {
     let mut bytes = LOG.to_vec(alloc)?;
-    if let Some(old) = bytes.get_mut(place) {
-        *old = byte;
+    for (place, byte) in changes {
+        if let Some(old) = bytes.get_mut(*place) {
+            *old = *byte;
+        }
     }
     Ok(bytes)
 }
 
+/// Whether a run ended so and told so.
+fn has_told(told: &Told, end: (Cause, u8), replies: &[u8], report: &[u8]) -> bool {
+    told.cause == end.0
+        && told.status == end.1
+        && told.replies.as_slice() == replies
+        && told.report.as_slice() == report
+}
+
+/// Whether two runs over empty devices, one after another, went well and told so; and whether the
+/// first one left the log of one batch.
+fn two_tell(
+    alloc: Global,
+    scripts: [&[u8]; 2],
+    replies: [&[u8]; 2],
+    reports: [&[u8]; 2],
+) -> Result<([bool; 2], bool), Fail> {
+    let (one, two) = run_two(alloc, scripts[0], scripts[1])?;
+    let done = (Cause::Done, 0);
+    let first = has_told(&one, done, replies[0], reports[0]);
+    let second = has_told(&two, done, replies[1], reports[1]);
+    Ok(([first, second], one.log.as_slice() == LOG))
+}
+
 #[test]
 fn a_put_is_read_by_its_run_and_by_the_next(rt: HostRuntime) -> Result<(), Fail> {
-    let alloc = rt.alloc();
-    let (first, second) = run_two(alloc, b"put! a 1\nget a\n", b"get a\n")?;
-    assert_eq!(rt;
-        first.replies.as_slice(),
-        b"1.1 synced\n1.1 value 1\n".as_slice()
-    );
-    assert_eq!(rt; first.report.as_slice(), REPORT);
-    assert_eq!(rt; first.status, 0);
-    assert_eq!(rt; first.log.as_slice(), LOG);
+    let (told, has_log) = two_tell(
+        rt.alloc(),
+        [b"put! a 1\nget a\n".as_slice(), b"get a\n".as_slice()],
+        [
+            b"1.1 synced\n1.1 value 1\n".as_slice(),
+            b"1.1 value 1\n".as_slice(),
+        ],
+        [REPORT, REPORT],
+    )?;
+    assert_eq!(rt; told, [true, true]);
+    assert!(rt; has_log);
     assert_eq!(rt; LOG.len(), 53);
-    assert_eq!(rt; second.replies.as_slice(), b"1.1 value 1\n".as_slice());
-    assert_eq!(rt; second.report.as_slice(), REPORT);
     Ok(())
 }
 
 #[test]
 fn an_empty_script_begins_a_session(rt: HostRuntime) -> Result<(), Fail> {
-    let alloc = rt.alloc();
-    let (first, second) = run_two(alloc, b"", b"put! a 1")?;
-    assert_eq!(rt; first.replies.as_slice(), b"".as_slice());
-    assert_eq!(rt; first.report.as_slice(), EMPTY_REPORT);
-    assert_eq!(rt; first.status, 0);
-    assert_eq!(rt; second.replies.as_slice(), b"2.1 synced\n".as_slice());
+    let (told, _) = two_tell(
+        rt.alloc(),
+        [b"".as_slice(), b"put! a 1".as_slice()],
+        [b"".as_slice(), b"2.1 synced\n".as_slice()],
+        [EMPTY_REPORT, SECOND_REPORT],
+    )?;
+    assert_eq!(rt; told, [true, true]);
     Ok(())
+}
+
+/// Whether a store with these changes to its log is refused so, and its log is left alone.
+fn is_refused(alloc: Global, changes: &[(usize, u8)], end: (Cause, u8)) -> Result<bool, Fail> {
+    let log = log_with(alloc, changes)?;
+    let told = run_over(alloc, &log, b"get a\n")?;
+    Ok(has_told(&told, end, b"", b"") && told.log == log)
 }
 
 #[test]
 fn each_log_that_is_refused_has_its_cause(rt: HostRuntime) -> Result<(), Fail> {
     let alloc = rt.alloc();
-    let damaged = |at| (6, Cause::Damaged(FileName::Log(1), at));
-    // A byte of the header's letters, of the profile, of a session of which no later one is left,
-    // of a batch of another session, and of an operation of no kind.
-    let rows = [
-        (1, b'f', damaged(0)),
-        (7, 0, (11, Cause::Profile(Profile::Normal, Profile::Small))),
-        (35, 2, damaged(24)),
-        (43, 2, damaged(24)),
+    let header = Cause::Damaged(FileName::Log(1), 0);
+    let record = Cause::Damaged(FileName::Log(1), 24);
+    let profile = Cause::Profile(Profile::Normal, Profile::Small);
+    let limit = Cause::Limit(LimitKind::Openings, 8_388_607);
+    // A byte of the header's letters, of the profile, of a batch of another session, and of an
+    // operation of no kind; and a session of which no later one is left.
+    let refused = [
+        is_refused(alloc, &[(1, b'f')], (header, 6))?,
+        is_refused(alloc, &[(7, 0)], (profile, 11))?,
+        is_refused(alloc, &[(35, 2)], (record, 6))?,
+        is_refused(alloc, &[(43, 2)], (record, 6))?,
+        is_refused(alloc, &[(21, 0x7f), (22, 0xff), (23, 0xff)], (limit, 8))?,
     ];
-    for (place, byte, (status, cause)) in rows {
-        let log = log_with(alloc, place, byte)?;
-        let told = run_over(alloc, &log, b"get a\n")?;
-        assert_eq!(rt; told.cause, cause);
-        assert_eq!(rt; told.status, status);
-        assert_eq!(rt; told.replies.as_slice(), b"".as_slice());
-        assert_eq!(rt; told.report.as_slice(), b"".as_slice());
-        assert_eq!(rt; told.log, log);
-    }
-    let mut last = log_with(alloc, 21, 0x7f)?;
-    for place in [22, 23] {
-        if let Some(byte) = last.get_mut(place) {
-            *byte = 0xff;
-        }
-    }
-    let told = run_over(alloc, &last, b"get a\n")?;
-    assert_eq!(rt; told.cause, Cause::Limit(LimitKind::Openings, 8_388_607));
-    assert_eq!(rt; told.status, 8);
+    assert_eq!(rt; refused, [true; 5]);
     Ok(())
+}
+
+/// The replies to a script over a log with these changes.
+fn replies_over(alloc: Global, changes: &[(usize, u8)], script: &[u8]) -> Result<Vec<u8>, Fail> {
+    let log = log_with(alloc, changes)?;
+    Ok(run_over(alloc, &log, script)?.replies)
 }
 
 #[test]
 fn the_last_number_of_a_session_is_read_and_the_next_session_goes_on(
     rt: HostRuntime,
 ) -> Result<(), Fail> {
-    let alloc = rt.alloc();
-    let mut log = log_with(alloc, 35, 1)?;
-    for place in 36..41 {
-        if let Some(byte) = log.get_mut(place) {
-            *byte = 0xff;
-        }
-    }
-    let told = run_over(alloc, &log, b"get a\nput! a 2\nget a\n")?;
+    let changes = [
+        (35, 1),
+        (36, 0xff),
+        (37, 0xff),
+        (38, 0xff),
+        (39, 0xff),
+        (40, 0xff),
+    ];
+    let replies = replies_over(rt.alloc(), &changes, b"get a\nput! a 2\nget a\n")?;
     assert_eq!(rt;
-        told.replies.as_slice(),
+        replies.as_slice(),
         b"1.1099511627775 value 1\n2.1 synced\n2.1 value 2\n".as_slice()
     );
     Ok(())
 }
 
+/// Whether these words are refused.
+fn are_refused(alloc: Global, list: &[&str]) -> Result<bool, Fail> {
+    let words = words_of(alloc, list)?;
+    let mut scripts = MemScripts::new(alloc, FailPlan::empty(alloc));
+    let mut sinks = MemSinks::new(alloc, SinkPlans::empty(alloc));
+    let devices = MemDevices::new(alloc, Plans::empty(alloc))?;
+    let Ended { status, cause, .. } = top_plain(alloc, &words, devices, &mut scripts, &mut sinks);
+    Ok(cause == Cause::Usage && status == 2)
+}
+
+/// Whether a script alone, of which the source fails by this plan, ends so and opens nothing.
+fn opens_nothing(
+    alloc: Global,
+    script: &[u8],
+    source: FailPlan,
+    end: (Cause, u8),
+) -> Result<bool, Fail> {
+    let told = run_one(alloc, script, source, SinkPlans::empty(alloc))?;
+    Ok(has_told(&told, end, b"", b"") && told.log.is_empty())
+}
+
 #[test]
 fn faulty_words_and_scripts_open_nothing(rt: HostRuntime) -> Result<(), Fail> {
     let alloc = rt.alloc();
-    let lists: [&[&str]; 5] = [
-        &[],
-        &["run", "d", "a.txt"],
-        &["run", "--profile", "small", "--workers", "0", "d"],
-        &["run", "--profile", "small", "--workers", "0", "", "a.txt"],
-        &["run", "--profile", "small", "--workers", "0", "d", "-a"],
-    ];
-    for list in lists {
-        let words = words_of(alloc, list)?;
-        let mut scripts = MemScripts::new(alloc, FailPlan::empty(alloc));
-        let mut sinks = MemSinks::new(alloc, SinkPlans::empty(alloc));
-        let devices = MemDevices::new(alloc, Plans::empty(alloc))?;
-        let Ended { status, cause, .. } = top_plain(
+    let refused = [
+        are_refused(alloc, &[])?,
+        are_refused(alloc, &["run", "d", "a.txt"])?,
+        are_refused(alloc, &["run", "--profile", "small", "--workers", "0", "d"])?,
+        are_refused(
             alloc,
-            &words,
-            devices,
-            &mut scripts,
-            &mut sinks,
-        );
-        assert_eq!(rt; cause, Cause::Usage);
-        assert_eq!(rt; status, 2);
-    }
-    let told = run_one(
-        alloc,
-        b"get a\nput a 1\n",
-        FailPlan::empty(alloc),
-        SinkPlans::empty(alloc),
-    )?;
-    assert_eq!(rt; told.cause, Cause::Script(1, 2, Why::Command));
-    assert_eq!(rt; told.status, 3);
-    assert_eq!(rt; told.log.as_slice(), b"".as_slice());
-    assert_eq!(rt; told.report.as_slice(), b"".as_slice());
+            &["run", "--profile", "small", "--workers", "0", "", "a.txt"],
+        )?,
+        are_refused(
+            alloc,
+            &["run", "--profile", "small", "--workers", "0", "d", "-a"],
+        )?,
+    ];
+    let faulty = Cause::Script(1, 2, Why::Command);
+    let none = FailPlan::empty(alloc);
+    let script = opens_nothing(alloc, b"get a\nput a 1\n", none, (faulty, 3))?;
+    assert_eq!(rt; refused, [true; 5]);
+    assert!(rt; script);
     Ok(())
+}
+
+/// How a run ended whose journal failed once: well; nothing was opened; the first put was told to
+/// have failed, or the second one; or otherwise.
+#[derive(Clone, Copy, PartialEq, Eq)]
+enum End {
+    Done,
+    Refused,
+    Stopped,
+    Unsynced,
+    Other,
+}
+
+fn end_of(told: &Told) -> End {
+    let replies = told.replies.as_slice();
+    let report = told.report.as_slice();
+    if told.status == 0 {
+        return End::Done;
+    }
+    if told.cause != Cause::Journal {
+        return End::Other;
+    }
+    if replies.is_empty() && report.is_empty() {
+        return End::Refused;
+    }
+    if replies == b"1.1 unsynced fault journal\nstopped\n1.1 value 1\n".as_slice()
+        && report == REPORT
+    {
+        return End::Stopped;
+    }
+    if replies == b"1.1 synced\n1.2 unsynced fault journal\n1.2 value 2\n".as_slice() {
+        return End::Unsynced;
+    }
+    End::Other
+}
+
+/// Which of the values 1 and 2 a run read, 0 where there was none, and 9 where it told otherwise.
+fn value_of(told: &Told) -> u8 {
+    match told.replies.as_slice() {
+        b"0.0 none\n" if told.status == 0 => 0,
+        b"1.1 value 1\n" if told.status == 0 => 1,
+        b"1.2 value 2\n" if told.status == 0 => 2,
+        _ => 9,
+    }
+}
+
+/// How a run of two puts ended in which this call of the journal failed, and which value was read
+/// after a crash.
+fn fail_and_crash(alloc: Global, call: u64, pick: Pick) -> Result<(End, u8), Fail> {
+    let (told, again) = run_and_crash(
+        alloc,
+        failing(alloc, call)?,
+        pick,
+        b"put! a 1\nput! a 2\nget a\n",
+        b"get a\n",
+    )?;
+    Ok((end_of(&told), value_of(&again)))
 }
 
 #[test]
 fn a_journal_that_fails_once_leaves_the_batch_or_nothing(rt: HostRuntime) -> Result<(), Fail> {
-    let alloc = rt.alloc();
     let (mut refused, mut stopped, mut unsynced) = (false, false, false);
     for call in 1..64 {
         for pick in PICKS {
-            let (told, again) = run_and_crash(
-                alloc,
-                failing(alloc, call)?,
-                pick,
-                b"put! a 1\nput! a 2\nget a\n",
-                b"get a\n",
-            )?;
-            if told.status == 0 {
-                assert!(rt; refused && stopped && unsynced);
-                return Ok(());
+            match fail_and_crash(rt.alloc(), call, pick)? {
+                (End::Done, _) => {
+                    assert!(rt; refused && stopped && unsynced);
+                    return Ok(());
+                }
+                (End::Refused, 0) => refused = true,
+                (End::Stopped, 0 | 1) => stopped = true,
+                (End::Unsynced, 1 | 2) => unsynced = true,
+                (_, _) => return Err("a reply or a value is wrong".into()),
             }
-            assert_eq!(rt; told.cause, Cause::Journal);
-            let replies = told.replies.as_slice();
-            let opened = !replies.is_empty();
-            if replies == b"1.1 synced\n1.2 unsynced fault journal\n1.2 value 2\n".as_slice() {
-                unsynced = true;
-            } else if opened {
-                stopped = true;
-                assert_eq!(rt;
-                    replies,
-                    b"1.1 unsynced fault journal\nstopped\n1.1 value 1\n".as_slice()
-                );
-                assert_eq!(rt; told.report.as_slice(), REPORT);
-            } else {
-                assert_eq!(rt; told.report.as_slice(), b"".as_slice());
-                refused = true;
-            }
-            let synced = replies.starts_with(b"1.1 synced\n");
-            assert_eq!(rt; again.status, 0);
-            let replies = again.replies.as_slice();
-            assert!(rt;
-                (replies == b"0.0 none\n".as_slice() && !synced)
-                    || (replies == b"1.1 value 1\n".as_slice() && opened)
-                    || (replies == b"1.2 value 2\n".as_slice() && synced)
-            );
         }
     }
     Err("no run without a fault".into())
 }
 
+/// Whether what was told to be synced is there, line by line.
+fn are_kept(told: &[u8], again: &[u8]) -> bool {
+    let ends = [b" 1", b" 2", b" 3", b" 4", b" 5"];
+    let synced = told.split(|b| *b == b'\n');
+    let values = again.split(|b| *b == b'\n');
+    for ((line, value), end) in synced.zip(values).zip(ends) {
+        if line.ends_with(b" synced") && !value.ends_with(end) {
+            return false;
+        }
+    }
+    true
+}
+
+/// Whether a run whose journal fails from this call on went well, and whether all that it told to
+/// be synced is there after a crash.
+fn stop_and_crash(alloc: Global, call: u64, pick: Pick) -> Result<(bool, bool), Fail> {
+    let plan = FailPlan {
+        calls: Vec::new(alloc),
+        from: Some(call),
+    };
+    let (told, again) = run_and_crash(
+        alloc,
+        plan,
+        pick,
+        b"put! a 1\nput! b 2\nput! c 3\nput! d 4\nput! e 5\n",
+        b"get a\nget b\nget c\nget d\nget e\n",
+    )?;
+    let kept = again.status == 0 && are_kept(&told.replies, &again.replies);
+    Ok((told.status == 0, kept))
+}
+
 #[test]
 fn what_was_told_synced_is_there_after_any_crash(rt: HostRuntime) -> Result<(), Fail> {
-    let alloc = rt.alloc();
     for call in 1..64 {
         for pick in PICKS {
-            let plan = FailPlan {
-                calls: Vec::new(alloc),
-                from: Some(call),
-            };
-            let (told, again) = run_and_crash(
-                alloc,
-                plan,
-                pick,
-                b"put! a 1\nput! b 2\nput! c 3\nput! d 4\nput! e 5\n",
-                b"get a\nget b\nget c\nget d\nget e\n",
-            )?;
-            assert_eq!(rt; again.status, 0);
-            let ends = [b" 1", b" 2", b" 3", b" 4", b" 5"];
-            let synced = told.replies.split(|b| *b == b'\n');
-            let values = again.replies.split(|b| *b == b'\n');
-            for ((line, value), end) in synced.zip(values).zip(ends) {
-                assert!(rt; !line.ends_with(b" synced") || value.ends_with(end));
-            }
-            if told.status == 0 {
+            let (done, kept) = stop_and_crash(rt.alloc(), call, pick)?;
+            assert!(rt; kept);
+            if done {
                 return Ok(());
             }
         }
@@ -364,16 +451,11 @@ fn what_was_told_synced_is_there_after_any_crash(rt: HostRuntime) -> Result<(), 
 #[test]
 fn a_source_that_fails_opens_nothing(rt: HostRuntime) -> Result<(), Fail> {
     let alloc = rt.alloc();
-    for call in 1..3 {
-        let told = run_one(
-            alloc,
-            b"put! a 1\nget a\n",
-            failing(alloc, call)?,
-            SinkPlans::empty(alloc),
-        )?;
-        assert_eq!(rt; told.cause, Cause::Source(1));
-        assert_eq!(rt; told.log.as_slice(), b"".as_slice());
-    }
+    let source = Cause::Source(1);
+    let script = b"put! a 1\nget a\n";
+    let first = opens_nothing(alloc, script, failing(alloc, 1)?, (source, 10))?;
+    let second = opens_nothing(alloc, script, failing(alloc, 2)?, (source, 10))?;
+    assert!(rt; first && second);
     Ok(())
 }
 
@@ -397,38 +479,25 @@ fn run_into(
     run_one(alloc, b"put! a 1\nget a\n", FailPlan::empty(alloc), plans)
 }
 
+/// Whether a run told so whose sinks failed.
+fn is_cut(told: Told, client: u32, replies: &[u8], report: &[u8]) -> bool {
+    has_told(&told, (Cause::Sink(client), 9), replies, report)
+}
+
 #[test]
 fn sinks_that_fail_have_their_cause_and_the_store_is_closed(rt: HostRuntime) -> Result<(), Fail> {
     let alloc = rt.alloc();
-    let none = || FailPlan::empty(alloc);
-    let all = b"1.1 synced\n1.1 value 1\n".as_slice();
-    let rows = [
-        (
-            run_into(alloc, failing(alloc, 1)?, None, None)?,
-            1,
-            b"".as_slice(),
-            EMPTY_REPORT,
-        ),
-        (
-            run_into(alloc, failing(alloc, 2)?, None, None)?,
-            0,
-            all,
-            b"".as_slice(),
-        ),
-        (run_into(alloc, none(), Some(5), None)?, 1, b"1.1 s", REPORT),
-        (
-            run_into(alloc, none(), Some(15), None)?,
-            1,
-            b"1.1 synced\n1.1 ",
-            REPORT,
-        ),
-        (run_into(alloc, none(), None, Some(3))?, 0, all, b"las"),
-    ];
-    for (told, index, replies, report) in rows {
-        assert_eq!(rt; told.cause, Cause::Sink(index));
-        assert_eq!(rt; told.status, 9);
-        assert_eq!(rt; told.replies.as_slice(), replies);
-        assert_eq!(rt; told.report.as_slice(), report);
-    }
+    let all = b"1.1 synced\n1.1 value 1\n";
+    let told = run_into(alloc, failing(alloc, 1)?, None, None)?;
+    let unopened = is_cut(told, 1, b"", EMPTY_REPORT);
+    let told = run_into(alloc, failing(alloc, 2)?, None, None)?;
+    let unreported = is_cut(told, 0, all, b"");
+    let told = run_into(alloc, FailPlan::empty(alloc), Some(5), None)?;
+    let early = is_cut(told, 1, b"1.1 s", REPORT);
+    let told = run_into(alloc, FailPlan::empty(alloc), Some(15), None)?;
+    let late = is_cut(told, 1, b"1.1 synced\n1.1 ", REPORT);
+    let told = run_into(alloc, FailPlan::empty(alloc), None, Some(3))?;
+    let report = is_cut(told, 0, all, b"las");
+    assert_eq!(rt; [unopened, unreported, early, late, report], [true; 5]);
     Ok(())
 }
