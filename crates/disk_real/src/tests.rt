@@ -1,71 +1,28 @@
 //! Each adapter over real files once.
 
-use crate::real_journal::RealJournal;
-use crate::{KeepOut, RealDevices, RealScripts, RealSinks};
-use disk_model::{Devices, Failed, Journal, JournalFile, Port, Scripts, Sink, Sinks};
+use crate::{RealDevices, RealScripts, RealSinks};
+use disk_model::{Devices, Journal, JournalFile, Port, Scripts, Sink, Sinks};
 use std::fs;
-use std::rt::Files;
-use std::sync::Wait;
 use std::test::Fail;
 
 const LOG: JournalFile = JournalFile::Log(1);
 
-/// Devices over the directory of this name.
-fn devices_over<R>(rt: R, name: &str) -> Result<RealDevices<R>, Failed>
-where
-    R: Files<File: KeepOut + Send + Sync> + Wait + AllocGlobal + Clone + Drop + Send + Sync,
-{
+#[test]
+fn what_the_journal_wrote_the_next_one_reads(rt: HostRuntime) -> Result<(), Fail> {
     let mut devices = RealDevices::new(rt);
-    devices.set(name)?;
-    Ok(devices)
-}
-
-/// Writes a log in two parts, and gives the size that it had before.
-fn write_parts<R>(journal: &mut RealJournal<R>) -> Result<Option<u64>, Failed>
-where
-    R: Files<File: KeepOut + Send + Sync> + Wait + AllocGlobal + Clone + Drop + Send + Sync,
-{
+    devices.set("journal-read")?;
+    let mut journal = devices.journal()?;
     let absent = journal.size(LOG)?;
     journal.write(LOG, 0, b"abcd")?;
     journal.write(LOG, 2, b"xyz")?;
     journal.sync(LOG)?;
-    Ok(absent)
-}
-
-/// Reads that log and drops it, and gives the size that it has then.
-fn read_and_drop<R>(journal: &mut RealJournal<R>) -> Result<(ReadLog, Option<u64>), Failed>
-where
-    R: Files<File: KeepOut + Send + Sync> + Wait + AllocGlobal + Clone + Drop + Send + Sync,
-{
+    devices.back(journal);
+    let mut journal = devices.journal()?;
     let mut out = [0; 8];
-    let size = journal.size(LOG)?;
-    let count = journal.read(LOG, 1, &mut out)?;
+    let read = (journal.size(LOG)?, journal.read(LOG, 1, &mut out)?, out);
     journal.drop_file(LOG)?;
-    Ok(((size, count, out), journal.size(LOG)?))
-}
-
-/// A log's size, and how much was read of it.
-type ReadLog = (Option<u64>, usize, [u8; 8]);
-
-/// The size before a log was written, what the next journal read of it, and the size after.
-fn written_and_read<R>(rt: R, name: &str) -> Result<(Option<u64>, ReadLog, Option<u64>), Failed>
-where
-    R: Files<File: KeepOut + Send + Sync> + Wait + AllocGlobal + Clone + Drop + Send + Sync,
-{
-    let mut devices = devices_over(rt, name)?;
-    let mut journal = devices.journal()?;
-    let absent = write_parts(&mut journal);
+    let gone = journal.size(LOG)?;
     devices.back(journal);
-    let mut journal = devices.journal()?;
-    let read = read_and_drop(&mut journal);
-    devices.back(journal);
-    let (read, gone) = read?;
-    Ok((absent?, read, gone))
-}
-
-#[test]
-fn what_the_journal_wrote_the_next_one_reads(rt: HostRuntime) -> Result<(), Fail> {
-    let (absent, read, gone) = written_and_read(rt, "journal-read")?;
     fs::remove_dir(&rt, "journal-read")?;
     assert_eq!(rt; absent, None);
     assert_eq!(rt; read, (Some(5), 4, *b"bxyz\0\0\0\0"));
@@ -73,36 +30,23 @@ fn what_the_journal_wrote_the_next_one_reads(rt: HostRuntime) -> Result<(), Fail
     Ok(())
 }
 
-/// Whether devices hand out none of their objects.
-fn are_refused<R>(devices: &mut RealDevices<R>) -> bool
-where
-    R: Files<File: KeepOut + Send + Sync> + Wait + AllocGlobal + Clone + Drop + Send + Sync,
-{
-    devices.journal().is_err() && devices.port().is_err() && devices.maker().is_err()
-}
-
-/// Whether a directory that is open is refused to others, opened again by those who have it, and
-/// opened by others once it is let go.
-fn opened_at_once<R>(rt: R, other: R, name: &str) -> Result<[bool; 3], Failed>
-where
-    R: Files<File: KeepOut + Send + Sync> + Wait + AllocGlobal + Clone + Drop + Send + Sync,
-{
-    let mut first = devices_over(rt, name)?;
-    let mut second = devices_over(other, name)?;
-    let journal = first.journal();
-    let refused = are_refused(&mut second);
-    drop(journal);
-    let again = first.journal().is_ok();
-    drop(first);
-    Ok([refused, again, second.journal().is_ok()])
-}
-
 #[test]
 fn a_directory_is_opened_once_at_a_time(rt: HostRuntime) -> Result<(), Fail> {
     fs::create_dir(&rt, "locked")?;
-    let told = opened_at_once(rt, rt, "locked")?;
+    let mut first = RealDevices::new(rt);
+    first.set("locked")?;
+    let journal = first.journal()?;
+    let mut second = RealDevices::new(rt);
+    second.set("locked")?;
+    let refused = second.journal().is_err() && second.port().is_err() && second.maker().is_err();
+    first.back(journal);
+    let journal = first.journal()?;
+    first.back(journal);
+    drop(first);
+    let journal = second.journal()?;
+    second.back(journal);
     fs::remove_dir(&rt, "locked")?;
-    assert_eq!(rt; told, [true; 3]);
+    assert!(rt; refused);
     Ok(())
 }
 
@@ -140,84 +84,49 @@ fn replies_are_in_the_file_as_they_are_given(rt: HostRuntime) -> Result<(), Fail
     Ok(())
 }
 
-/// The sizes of four files of which three were written.
-fn write_each<R>(journal: &mut RealJournal<R>) -> Result<[Option<u64>; 4], Failed>
-where
-    R: Files<File: KeepOut + Send + Sync> + Wait + AllocGlobal + Clone + Drop + Send + Sync,
-{
+#[test]
+fn each_file_of_the_journal_is_a_file_of_its_own(rt: HostRuntime) -> Result<(), Fail> {
+    let mut devices = RealDevices::new(rt);
+    devices.set("journal-files")?;
+    let mut journal = devices.journal()?;
     journal.write(LOG, 0, b"one")?;
     journal.write(JournalFile::Log(2), 0, b"three")?;
     journal.write(JournalFile::ManifestA, 0, b"m")?;
-    Ok([
+    let sizes = (
         journal.size(LOG)?,
         journal.size(JournalFile::Log(2))?,
         journal.size(JournalFile::ManifestA)?,
         journal.size(JournalFile::ManifestB)?,
-    ])
-}
-
-fn sizes_in<R>(rt: R, name: &str) -> Result<[Option<u64>; 4], Failed>
-where
-    R: Files<File: KeepOut + Send + Sync> + Wait + AllocGlobal + Clone + Drop + Send + Sync,
-{
-    let mut devices = devices_over(rt, name)?;
-    let mut journal = devices.journal()?;
-    let sizes = write_each(&mut journal);
+    );
     devices.back(journal);
-    sizes
-}
-
-#[test]
-fn each_file_of_the_journal_is_a_file_of_its_own(rt: HostRuntime) -> Result<(), Fail> {
-    let sizes = sizes_in(rt, "journal-files")?;
     fs::remove_dir_all(&rt, "journal-files")?;
-    assert_eq!(rt; sizes, [Some(3), Some(5), Some(1), None]);
+    assert_eq!(rt; sizes, (Some(3), Some(5), Some(1), None));
     Ok(())
-}
-
-/// Makes a log in a directory of this name, and lets the directory go.
-fn make_log<R>(rt: R, name: &str) -> Result<(), Failed>
-where
-    R: Files<File: KeepOut + Send + Sync> + Wait + AllocGlobal + Clone + Drop + Send + Sync,
-{
-    let mut devices = devices_over(rt, name)?;
-    let mut journal = devices.journal()?;
-    let written = journal.write(LOG, 0, b"other");
-    let synced = journal.sync(LOG);
-    devices.back(journal);
-    written.and(synced)
-}
-
-/// The tables that are listed in a directory that another made since it was looked for, and whether
-/// its log was written.
-fn made_meanwhile<R>(rt: R, other: R, name: &str) -> Result<(usize, bool), Fail>
-where
-    R: Files<File: KeepOut + Send + Sync> + Wait + AllocGlobal + Clone + Drop + Send + Sync,
-{
-    let mut devices = devices_over(rt, name)?;
-    let mut journal = devices.journal()?;
-    let absent = journal.size(LOG);
-    let made = make_log(other, name);
-    let _ = journal.drop_file(LOG);
-    let written = journal.write(LOG, 0, b"a").is_ok();
-    let _ = journal.drop_file(LOG);
-    devices.back(journal);
-    let mut port = devices.port()?;
-    let tables = port.list();
-    devices.back_port(port);
-    made?;
-    if absent?.is_some() {
-        return Err("the log was there".into());
-    }
-    Ok((tables?.len(), written))
 }
 
 #[test]
 fn a_log_that_another_made_meanwhile_is_left_alone(rt: HostRuntime) -> Result<(), Fail> {
-    let told = made_meanwhile(rt, rt, "made-meanwhile")?;
+    let mut devices = RealDevices::new(rt);
+    devices.set("made-meanwhile")?;
+    let mut journal = devices.journal()?;
+    let absent = journal.size(LOG)?;
+    let mut others = RealDevices::new(rt);
+    others.set("made-meanwhile")?;
+    let mut other = others.journal()?;
+    other.write(LOG, 0, b"other")?;
+    other.sync(LOG)?;
+    others.back(other);
+    drop(others);
+    let mut port = devices.port()?;
+    let tables = port.list()?.len();
+    devices.back_port(port);
+    let _ = journal.drop_file(LOG);
+    let written = journal.write(LOG, 0, b"a").is_ok();
+    let _ = journal.drop_file(LOG);
+    devices.back(journal);
     let text = fs::read_to_string(&rt, "made-meanwhile/log-1")?;
     fs::remove_dir_all(&rt, "made-meanwhile")?;
-    assert_eq!(rt; told, (0, false));
+    assert_eq!(rt; (absent, tables, written), (None, 0, false));
     assert_eq!(rt; text.as_str(), "other");
     Ok(())
 }
