@@ -4,6 +4,7 @@ pub mod Finding
 pub mod Honest
 pub mod Moves
 pub mod Looked
+pub mod Neighbours
 pub mod Newest
 pub mod Pages
 pub mod Seeking

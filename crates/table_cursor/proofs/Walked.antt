@@ -81,22 +81,22 @@ previous_is items index page now some =
     let test : (length page.entries == 0) ≡ false = grind (arith, nat_tests, some) in
     ap (λ b. if b then None else spot_before items index page.place now) test
 
-block_end : (items : List IndexItem) (index place count : ℕ) → count ≤ place + 1 → spot_behind items index place count ≡ first_spot items (index + 1)
+pub block_end : (items : List IndexItem) (index place count : ℕ) → count ≤ place + 1 → spot_behind items index place count ≡ first_spot items (index + 1)
 block_end items index place count le =
     let test : nat_lt (place + 1) count ≡ false = grind (arith, nat_tests, le) in
     ap (λ b. if b then Some (index, place + 1) else first_spot items (index + 1)) test
 
-block_front : (items : List IndexItem) (index place : ℕ) (now : Reading) → place ≡ 0 → spot_before items index place now ≡ (if index == 0 then None else last_spot items (index - 1) now)
+pub block_front : (items : List IndexItem) (index place : ℕ) (now : Reading) → place ≡ 0 → spot_before items index place now ≡ (if index == 0 then None else last_spot items (index - 1) now)
 block_front items index place now is =
     let test : nat_lt 0 place ≡ false = grind (arith, nat_tests, is) in
     ap (λ b. if b then Some (index, place - 1) else if index == 0 then None else last_spot items (index - 1) now) test
 
-there_is : (items : List IndexItem) (index place : ℕ) → index < length items → spot_in items index place ≡ Some (index, place)
+pub there_is : (items : List IndexItem) (index place : ℕ) → index < length items → spot_in items index place ≡ Some (index, place)
 there_is items index place lt =
     let test : nat_lt index (length items) ≡ true = grind (arith, nat_tests, lt) in
     ap (λ b. if b then Some (index, place) else None) test
 
-none_is : (items : List IndexItem) (index place : ℕ) → length items ≤ index → spot_in items index place ≡ None
+pub none_is : (items : List IndexItem) (index place : ℕ) → length items ≤ index → spot_in items index place ≡ None
 none_is items index place le =
     let test : nat_lt index (length items) ≡ false = grind (arith, nat_tests, le) in
     ap (λ b. if b then Some (index, place) else None) test

@@ -1,6 +1,6 @@
 -- What contracts see of a cursor over a table.
-use Rattle.std.specs.Prelude.{◌≡◌, ℕ, List, Option, length, slice_get}
-use Rattle.std.proofs.Common.{◌∙◌}
+use Rattle.std.specs.Prelude.{◌≡◌, ◌↔◌, ℕ, List, Option, length, slice_get}
+use Rattle.std.proofs.Common.{◌∙◌, sym, subst}
 use Rattle.std.specs.Arc.{arc_value}
 use Rattle.disk_model.specs.declared.port.Port.{Ghosts}
 use Rattle.disk_model.specs.declared.table_handle.TableHandle as handles
@@ -85,3 +85,7 @@ module _ {P F : Type 0} {p : Ghosts P F} {f : handles.Ghosts F} where
 
   pub keeps_on : (a b c : TableCursor P F p f) → Keeps a b → Keeps b c → Keeps a c
   keeps_on a b c x y = record { table = y.table ∙ x.table; files = y.files ∙ x.files; steady = λ s. y.steady (x.steady s) }
+
+  pub keeps_damage : (a b : TableCursor P F p f) (number at : ℕ) → Keeps a b → DamageIn a number at ↔ DamageIn b number at
+  keeps_damage a b number at x =
+      (subst (λ t. IsDamageOf f (arc_value t) number at) (sym x.table), subst (λ t. IsDamageOf f (arc_value t) number at) x.table)

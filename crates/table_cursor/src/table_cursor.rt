@@ -1,9 +1,9 @@
 //! Cursors over sorted tables.
 
-ghost use Rattle.std.specs.Prelude.{◌≡◌, ◌↔◌, ◌<◌, ◌+◌, ◌-◌, ℕ, List, [], Option, IsTrue, IsNone, IsOk, IfSome, OnOk, OnErr, None, Err, length};
+ghost use Rattle.std.specs.Prelude.{◌≡◌, ◌↔◌, ◌<◌, ◌+◌, ◌-◌, ℕ, List, [], Option, IsTrue, IsNone, IsOk, IfSome, OnOk, OnErr, None, Some, Err, false, length, slice_get};
 ghost use Rattle.std.specs.Arc.{arc_value};
 ghost use Rattle.peb_base.specs.Cursors.{next_place, previous_place, last_place, place_from, LeadsTo, IfDamage};
-ghost use Rattle.peb_base.specs.Entries.{AreSorted, first_from};
+ghost use Rattle.peb_base.specs.Entries.{AreSorted, comes_before, first_from};
 ghost use Rattle.peb_base.specs.declared.entry.Entry.{Entry};
 ghost use Rattle.peb_base.specs.declared.read_fault.ReadFault.TheVariants as faults;
 ghost use Rattle.table_file.specs.Form.{blocks_of};
@@ -227,6 +227,8 @@ impl<P: Port> TableCursor<P> {
     fn go_to(&mut self, key: &[u8], number: Number) -> Result<(), ReadFault>
         ensures leads { (es : List Entry) → (holds : Holds P.File.TableHandle (arc_value self.old.table) es)
             → IsTrue P.File.tells → LeadsTo (OnPage self.new.page self.new.index (blocks_of holds.full es) es) (place_from key.now number es) result }
+        ensures behind { (e : Entry) → slice_get self.new.page.entries self.new.page.place ≡ Some e
+            → comes_before e.key e.number key.now number ≡ false }
         ensures lands { OnOk result (spot self.new.index self.new.page ≡ found_spot (arc_value self.old.table).items key.now number self.new.page) }
         ensures table { self.new.table ≡ self.old.table }
         ensures nothing { OnErr result (self.new.page.entries ≡ []) }
@@ -249,16 +251,17 @@ impl<P: Port> TableCursor<P> {
 }
 
 impl<P: Port> Cursor for TableCursor<P> {
-    ghost use Rattle.std.specs.Prelude.{◌≡◌, ◌<◌, ◌+◌, ◌-◌, ◌++◌, ◌∷◌, [], ℕ, List, Option, Some, None, IsOk, IfSome, OnOk, OnErr, Err, length, option_map};
+    ghost use Rattle.std.specs.Prelude.{◌≡◌, ◌<◌, ◌+◌, ◌-◌, ◌++◌, ◌∷◌, [], ℕ, List, Option, Some, None, IsOk, IfSome, OnOk, OnErr, Err, true, false, length, option_map};
     ghost use Rattle.std.specs.Arc.{arc_value};
     ghost use Rattle.peb_base.specs.Cursors.{place_from, first_place, last_place, next_place, previous_place, LeadsTo, CountsFaults, IfDamage, refusal};
     ghost use Rattle.peb_base.specs.EntryRefs.{entry_of};
+    ghost use Rattle.peb_base.specs.Entries.{comes_before, entry_lt};
     ghost use Rattle.peb_base.specs.declared.entry.Entry.{Entry};
     ghost use Rattle.peb_base.specs.declared.read_fault.ReadFault.TheVariants as faults;
     ghost use Rattle.disk_model.specs.Ports.{ReadsAtMost};
     ghost use Rattle.table_cursor.specs.Spots.{first_spot, last_spot, next_spot, previous_spot, found_spot};
     ghost use Rattle.table_cursor.specs.StandingLaws.{stands_among};
-    ghost use Rattle.table_cursor.specs.Views.{table_of, port_of, page_of, index_of, refused_of, blocks_in, shown_by, spot_of, ahead_of, back_of, size_of, StandsIn, WalksIn, DamageIn, IsOfTable, Keeps, keeps_self, keeps_on};
+    ghost use Rattle.table_cursor.specs.Views.{table_of, port_of, page_of, index_of, refused_of, blocks_in, shown_by, spot_of, ahead_of, back_of, size_of, StandsIn, WalksIn, DamageIn, IsOfTable, Keeps, keeps_self, keeps_on, keeps_damage};
     ghost use Rattle.table_cursor.specs.Walking.{most_steps};
     ghost use Rattle.table_cursor.specs.WalkLaws.{entry_within, walk_ascends, steps_bounded};
 
@@ -294,6 +297,8 @@ impl<P: Port> Cursor for TableCursor<P> {
 
     ghost kept_on = { λ a b c x y. keeps_on a b c x y };
 
+    ghost kept_damage = { λ a b number at x. keeps_damage a b number at x };
+
     ghost kept_size = { λ a b x i. most_steps (length (arc_value (x.table i)).items) };
 
     /// Goes to the first entry at or behind this key and number, or to no place where all come before, with one read at most.
@@ -304,6 +309,7 @@ impl<P: Port> Cursor for TableCursor<P> {
         ensures goes { (es : List Entry) (place : Option ℕ)
             → StandsIn self.old es place
             → LeadsTo (StandsIn self.new es) (place_from key.now number es) result }
+        ensures behind { (e : Entry) → shown_by self.new ≡ Some e → comes_before e.key e.number key.now number ≡ false }
         ensures lands { OnOk result (spot_of self.new ≡ found_spot (table_of self.old).items key.now number (page_of self.new)) }
         // what it leaves
         ensures nothing { OnErr result (shown_by self.new ≡ None) }
@@ -379,9 +385,8 @@ impl<P: Port> Cursor for TableCursor<P> {
         ensures walks { OnOk result ((es : List Entry) (e : Entry) → shown_by self.old ≡ Some e
             → WalksIn self.old es
             → WalksIn self.new (es ++ e ∷ [])) }
-        ensures fewer { (e : Entry) → shown_by self.old ≡ Some e
-            → ahead_of self.new
-            < ahead_of self.old }
+        ensures behind { (e f : Entry) → shown_by self.old ≡ Some e → shown_by self.new ≡ Some f → entry_lt e f ≡ true }
+        ensures fewer { (e : Entry) → shown_by self.old ≡ Some e → ahead_of self.new < ahead_of self.old }
         ensures stays { shown_by self.old ≡ None
             → IsOk result × (shown_by self.new ≡ None) }
         // what it leaves
@@ -410,6 +415,8 @@ impl<P: Port> Cursor for TableCursor<P> {
         ensures lands { OnOk result (spot_of self.new ≡ previous_spot (table_of self.old).items (index_of self.old) (page_of self.old) (page_of self.new)) }
         ensures within { 0 < (page_of self.old).place → 0 < length (page_of self.old).entries → IsOk result × ((port_of self.new) ≡ (port_of self.old))
             × ((page_of self.new) ≡ record (page_of self.old) { place = (page_of self.old).place - 1 }) }
+        ensures falls { (e f : Entry) → shown_by self.old ≡ Some e → shown_by self.new ≡ Some f → entry_lt e f ≡ false }
+        ensures before { (e f : Entry) → shown_by self.old ≡ Some e → shown_by self.new ≡ Some f → entry_lt f e ≡ true }
         ensures fewer { (e : Entry) → shown_by self.old ≡ Some e → back_of self.new < back_of self.old }
         ensures stays { shown_by self.old ≡ None
             → IsOk result × (shown_by self.new ≡ None) }

@@ -11,6 +11,10 @@ use Rattle.table_cursor.proofs.Ends.{not_none}
 use Rattle.peb_base.specs.Entries.{AreSorted}
 use Rattle.table_cursor.specs.WalkLaws.{shows_moved}
 use Rattle.table_cursor.proofs.Finding.{find_inside}
+use Rattle.std.specs.Prelude.{slice_get}
+use Rattle.table_cursor.specs.Page.{Reading}
+use Rattle.table_cursor.proofs.Neighbours.{found_not_before, none_among}
+use Rattle.table_cursor.proofs.Walked.{no_entries}
 use Rattle.table_cursor.proofs.Seeking.{not_found, found_on_page}
 use Rattle.table_cursor.proofs.table_cursor.TableCursor.go_to.Goals as goal
 
@@ -62,3 +66,15 @@ invariant_of-self g c =
     let lt : n < length shown.page.entries = find_inside key c.args.number table.row table.items shown.index shown.page.at shown.page.entries shows.agrees same some in
     let both = subst (λ page. (0 < length page.entries → ShowsOf g.P.File.TableHandle table shown.index page) × AreSorted page.entries) (sym c.seek.ensures) ((λ s. shows_moved g.P.File.TableHandle table shows lt), shown.sorted) in
     record { shown = both.0; sorted = both.1 }
+
+pub returns-in-Err-clause-behind : goal.returns-in-Err-clause-behind
+returns-in-Err-clause-behind g c = λ e there. absurd (none_among _ _ e c.in-Err.ensures.nothing there)
+
+pub returns-then-is_empty-clause-behind : goal.returns-then-is_empty-clause-behind
+returns-then-is_empty-clause-behind g c = λ e there. absurd (none_among _ _ e (no_entries _ (c.is_empty.ensures.0 c.if-is_empty.true)) there)
+
+pub returns-clause-behind : goal.returns-clause-behind
+returns-clause-behind g c = λ e there.
+    let shown = c.show.new.self in
+    let key = c.args.key.now in
+    found_not_before key c.args.number shown.page.entries e (sym (ap (λ (p : Reading). slice_get p.entries p.place) c.seek.ensures) ∙ there)

@@ -6,6 +6,8 @@ use Rattle.peb_base.specs.declared.entry.Entry.{Entry}
 use Rattle.table_file.specs.Form.{blocks_of}
 use Rattle.table_cursor.specs.Standing.{OnPage}
 use Rattle.table_cursor.specs.Walking.{Walks, steps_ahead}
+use Rattle.table_cursor.specs.Agreeing.{ShowsOf}
+use Rattle.table_cursor.proofs.Neighbours.{rises_on}
 use Rattle.table_cursor.proofs.Standings.{stands_on}
 use Rattle.table_cursor.proofs.Walked.{GoesWithin, shows_nothing, nothing_there, walks_on, steps_on}
 use Rattle.table_cursor.proofs.table_cursor.TableCursorCursor.next.Goals as goal
@@ -49,3 +51,14 @@ returns-clause-fewer g c = λ e there.
     let long : length (arc_value new.table).items ≡ length table.items = λ i. length (arc_value (c.go-moved.ensures.table i)).items in
     subst (λ n. steps_ahead n new.index new.page < steps_ahead (length table.items) cursor.index cursor.page) (sym long)
     (steps_on g.P.File.TableHandle table cursor.index cursor.page cursor.shown c.go-moved.result _ new.index new.page e within c.go-moved.ensures.lands (c.next_step-step.ensures.lands new.page) c.go-moved.ensures.nothing there)
+
+pub returns-clause-behind : goal.returns-clause-behind
+returns-clause-behind g c = λ e f there then_there.
+    let cursor = c.args.self.now in
+    let new = c.go-moved.new.self in
+    let table = arc_value cursor.table in
+    let within : cursor.page.place + 1 < length cursor.page.entries → GoesWithin cursor.page cursor.index (cursor.page.place + 1) new.page new.index = λ lt.
+    let w = c.go-moved.ensures.within (cursor.page.place + 1) (c.next_step-step.ensures.within lt) in (w.1, w.2) in
+    let shown : 0 < length new.page.entries → ShowsOf g.P.File.TableHandle table new.index new.page =
+    subst (λ t. 0 < length new.page.entries → ShowsOf g.P.File.TableHandle (arc_value t) new.index new.page) c.go-moved.ensures.table new.shown in
+    rises_on g.P.File.TableHandle table cursor.index cursor.page cursor.shown cursor.sorted c.go-moved.result _ new.index new.page e f shown within c.go-moved.ensures.lands (c.next_step-step.ensures.lands new.page) c.go-moved.ensures.nothing there then_there

@@ -1,9 +1,11 @@
 use Rattle.std.proofs.Common.{◌-◌, ◌<◌, length, ap, subst}
 use Rattle.std.specs.Arc.{arc_value}
 use Rattle.peb_base.specs.Cursors.{LeadsTo}
+use Rattle.peb_base.specs.EntryLaws.{entry_asym}
 use Rattle.table_file.specs.Form.{blocks_of}
 use Rattle.table_cursor.specs.Agreeing.{ShowsOf}
 use Rattle.table_cursor.specs.Standing.{OnPage}
+use Rattle.table_cursor.proofs.Neighbours.{falls_off}
 use Rattle.table_cursor.proofs.Standings.{stands_on}
 use Rattle.table_cursor.proofs.Walked.{GoesWithin, shows_nothing, nothing_there, steps_off}
 use Rattle.table_cursor.proofs.table_cursor.TableCursorCursor.prev.Goals as goal
@@ -34,3 +36,17 @@ returns-clause-fewer g c = λ e there.
     let shown : 0 < length new.page.entries → ShowsOf g.P.File.TableHandle table new.index new.page =
     subst (λ t. 0 < length new.page.entries → ShowsOf g.P.File.TableHandle (arc_value t) new.index new.page) c.go-moved.ensures.table new.shown in
     steps_off g.P.File.TableHandle table cursor.index cursor.page cursor.shown c.go-moved.result _ new.index new.page e shown within c.go-moved.ensures.lands (c.previous_step-step.ensures.lands new.page) c.go-moved.ensures.nothing there
+
+pub returns-clause-before : goal.returns-clause-before
+returns-clause-before g c = λ e f there then_there.
+    let cursor = c.args.self.now in
+    let new = c.go-moved.new.self in
+    let table = arc_value cursor.table in
+    let within : 0 < cursor.page.place → 0 < length cursor.page.entries → GoesWithin cursor.page cursor.index (cursor.page.place - 1) new.page new.index = λ later some.
+    let w = c.go-moved.ensures.within (cursor.page.place - 1) (c.previous_step-step.ensures.within later some) in (w.1, w.2) in
+    let shown : 0 < length new.page.entries → ShowsOf g.P.File.TableHandle table new.index new.page =
+    subst (λ t. 0 < length new.page.entries → ShowsOf g.P.File.TableHandle (arc_value t) new.index new.page) c.go-moved.ensures.table new.shown in
+    falls_off g.P.File.TableHandle table cursor.index cursor.page cursor.shown cursor.sorted c.go-moved.result _ new.index new.page e f shown within c.go-moved.ensures.lands (c.previous_step-step.ensures.lands new.page) c.go-moved.ensures.nothing there then_there
+
+pub returns-clause-falls : goal.returns-clause-falls
+returns-clause-falls g c = λ e f there then_there. entry_asym f e (returns-clause-before g c e f there then_there)
