@@ -139,3 +139,24 @@ found_start key number place es lt sorted passed = by (passed here.entry here.go
     by : (place ≡ 0) ⊎ (comes_before here.entry.key here.entry.number key number ≡ true) → FoundFrom key number place es
     by (inl none) = subst (λ n. FoundFrom key number n es) (sym none) (omega arith)
     by (inr before) = passed_front key number [] 0 es place here.entry sorted here.got before
+
+-- the first entry that doesn't come before a key and number stands no later than one that doesn't, or than behind the last
+pub no_later : (key : Bytes) (number : ℕ) (es : List Entry) (n : ℕ)
+    → ((e : Entry) → slice_get es n ≡ Some e → comes_before e.key e.number key number ≡ false) → first_from key number es ≤ n
+no_later key number [] n ahead = omega arith
+no_later key number (x ∷ es) zero ahead =
+    let test = ahead x refl in
+    let none : first_from key number (x ∷ es) ≡ 0 = ap (λ b. if b then suc (first_from key number es) else 0) test in
+    omega (arith, none)
+no_later key number (x ∷ es) (suc n) ahead =
+    by (comes_before x.key x.number key number) (no_later key number es n ahead)
+  where
+    by : (b : Bool) → first_from key number es ≤ n → (if b then suc (first_from key number es) else 0) ≤ suc n
+    by true le = omega (arith, le)
+    by false le = omega arith
+
+-- an entry that stands at a place stands among them
+pub got_inside : (es : List Entry) (n : ℕ) (e : Entry) → slice_get es n ≡ Some e → n < length es
+got_inside [] n e there = cc
+got_inside (x ∷ es) zero e there = omega arith
+got_inside (x ∷ es) (suc n) e there = omega (arith, got_inside es n e there)

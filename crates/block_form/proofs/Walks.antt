@@ -312,10 +312,11 @@ pub held : (es : List Entry) (entries places : List ℕ) (count : ℕ) → Spell
 held es entries places count spells counts =
     (λ i. entries_from (sym counts i) [] (spells.spelled i)) ∙ entries_again (length es) 0 [] 0 es (omega arith) spells.each
 
-pub holds_entries : (es : List Entry) (entries places : List ℕ) (count : ℕ) → Spells 0 1 [] 0 es entries places → length es ≡ count → HoldsEntries entries count (entries_from count [] entries)
-holds_entries es entries places count spells counts =
+pub holds_entries : (es : List Entry) (entries places : List ℕ) (count : ℕ) → 0 < count → Spells 0 1 [] 0 es entries places
+    → length es ≡ count → HoldsEntries entries count (entries_from count [] entries)
+holds_entries es entries places count some spells counts =
     subst (λ (xs : List Entry). HoldsEntries entries count xs) (sym (held es entries places count spells counts))
-    (record { each = spells.each; spelled = spells.spelled; count_is = sym counts })
+    (record { some = omega (arith, some, counts); each = spells.each; spelled = spells.spelled; count_is = sym counts })
 
 pub block_whole : (bytes entries places : List ℕ) (es : List Entry) (count : ℕ) → BlockParts bytes entries places → 0 < count → Spells 0 1 [] 0 es entries places → length es ≡ count
     → IsBlock (entries_from count [] entries) bytes

@@ -1,5 +1,5 @@
 -- What a walk over the bytes of a block knows.
-use Rattle.std.specs.Prelude.{◌≡◌, ℕ, zero, suc, ◌*◌, ◌≤◌, true, if◌then◌else◌, List, [], ◌∷◌, ◌++◌, length, take, drop}
+use Rattle.std.specs.Prelude.{◌≡◌, ℕ, zero, suc, ◌*◌, ◌<◌, ◌≤◌, true, if◌then◌else◌, List, [], ◌∷◌, ◌++◌, length, take, drop}
 use Rattle.byteorder.specs.Endian.{big_bytes, big_number}
 use Rattle.peb_base.specs.Keys.{Bytes}
 use Rattle.peb_base.specs.declared.entry.Entry.{Entry}
@@ -53,8 +53,9 @@ pub record BlockParts (bytes : List ℕ) (entries : List ℕ) (places : List ℕ
   pub read : number ≡ big_number 4 tail
   pub again : tail ≡ big_bytes 4 number
 
--- the bytes are those of these entries, so many
+-- the bytes are those of these entries, so many and at least one
 pub record HoldsEntries (entries : List ℕ) (count : ℕ) (es : List Entry) : Type 0 where
+  pub some : 0 < length es
   pub each : AreSorted es
   pub spelled : entries ≡ entries_bytes 0 [] es
   pub count_is : count ≡ length es

@@ -103,16 +103,16 @@ impl<'a> Block<'a> {
 impl Block<'_> {
     ghost use Rattle.peb_base.specs.Entries.{first_from};
 
-    /// The number of entries.
+    /// The number of entries, at least one.
     pub fn len(&self) -> usize
-        ensures { result ≡ length self.now }
+        ensures count { result ≡ length self.now }
+        ensures some { 0 < length self.now }
     {
         self.count
     }
 
     /// The place of the first entry at or after this key and number, in entry order, or the number of entries.
     pub fn find(&self, key: &[u8], number: Number) -> usize
-        requires { 0 < length self.now }
         ensures { result ≡ first_from key.now number self.now }
     {
         let mut room = KeyBuf::new();
@@ -123,7 +123,6 @@ impl Block<'_> {
     /// Goes to the first entry at or after this key and number, in entry order, or behind the last: gives its place and where it
     /// begins, and leaves its key. It halves over the restarts, and then looks at sixteen entries at most.
     pub fn seek(&self, key: &[u8], number: Number, key_out: &mut KeyBuf) -> (usize, usize)
-        requires { 0 < length self.now }
         ensures place { result.0 ≡ first_from key.now number self.now }
         ensures at { result.1 ≡ offset_of result.0 self.now }
         ensures key { (e : Entry) → slice_get self.now result.0 ≡ Some e → key_out.new ≡ e.key }
@@ -140,12 +139,13 @@ impl Block<'_> {
         (place, at)
     }
 
-    /// The place of the last restart whose entry comes before this key and number, or of the first restart.
+    /// The place of the last restart whose entry comes before this key and number, or of the first restart. The first entry at or
+    /// after them stands there or at most sixteen places behind.
     fn restart_before(&self, key: &[u8], number: u64) -> usize
-        requires { 0 < length self.now }
         ensures restart { result % 16 ≡ 0 }
         ensures inside { result < length self.now }
         ensures passed { (e : Entry) → slice_get self.now result ≡ Some e → (result ≡ 0) ⊎ (comes_before e.key e.number key.now number ≡ true) }
+        ensures near { (result ≤ first_from key.now number self.now) × (first_from key.now number self.now ≤ result + 16) }
     {
         let mut low = 0;
         let mut high = (self.count - 1) / 16 + 1;

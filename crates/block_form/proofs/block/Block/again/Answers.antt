@@ -6,7 +6,8 @@ use Rattle.block_form.proofs.block.Block.again.Goals as goal
 pub invariant_of-result-2 : goal.invariant_of-result-2
 invariant_of-result-2 c =
     let spells = block_spells c.args.bytes.now c.in-Some.parts.0.now c.in-Some.parts.1.now c.requires.0 c.in-Some.ensures.found c.requires.1 in
-    holds_entries c.requires.0 c.in-Some.parts.0.now c.in-Some.parts.1.now c.args.count spells c.requires.2
+    let some : 0 < c.args.count = omega (arith, c.requires.1.some, c.requires.2) in
+    holds_entries c.requires.0 c.in-Some.parts.0.now c.in-Some.parts.1.now c.args.count some spells c.requires.2
 
 pub returns : goal.returns
 returns c =

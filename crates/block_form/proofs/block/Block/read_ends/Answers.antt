@@ -31,7 +31,8 @@ invariant_of-block-inside c =
 pub invariant_of-block : goal.invariant_of-block
 invariant_of-block c =
     let all = c.in-Some-ends_of.ensures.found in
-    holds_entries all.0 c.in-Some.parts.0.now c.in-Some.parts.1.now c.in-Some-ends_of.ends.count all.1 (sym all.2.count)
+    let some : 0 < c.in-Some-ends_of.ends.count = omega (arith, c.if-ends-eq0.false) in
+    holds_entries all.0 c.in-Some.parts.0.now c.in-Some.parts.1.now c.in-Some-ends_of.ends.count some all.1 (sym all.2.count)
 
 pub returns-clause-ends : goal.returns-clause-ends
 returns-clause-ends c =
