@@ -1,5 +1,5 @@
 -- How many entries a block has at most.
-use Rattle.std.proofs.Common.{ℕ, suc, ◌≤◌, List, [], ◌∷◌, ◌++◌, length, arith, length-append}
+use Rattle.std.proofs.Common.{ℕ, suc, ◌<◌, ◌≤◌, List, [], ◌∷◌, ◌++◌, length, arith, length-append}
 use Rattle.byteorder.specs.Endian.{big_bytes}
 use Rattle.peb_base.specs.Keys.{Bytes}
 use Rattle.peb_base.specs.declared.entry.Entry.{Entry}
@@ -16,7 +16,7 @@ entries_long place before (e ∷ es) =
     one_long place before e = omega arith
 
 -- a block has fewer entries than bytes
-pub entries_few : (es : List Entry) → length es ≤ length (block_bytes es)
+pub entries_few : (es : List Entry) → length es < length (block_bytes es)
 unfolding block_bytes
 entries_few es =
     let r = block_restarts es in

@@ -13,7 +13,7 @@ use Rattle.table_file.specs.Blocks.{AreBlocks}
 use Rattle.table_file.specs.Form.{blocks_of, body_bytes, blocks_table, item_of}
 use Rattle.table_file.specs.Tables.{TableParts, Holds}
 use Rattle.table_file.specs.declared.index_item.IndexItem.{IndexItem}
-use Rattle.table_cursor.specs.Agreeing.{Agrees, ShowsOf, IsDamageOf}
+use Rattle.table_cursor.specs.Agreeing.{Agrees, ShowsOf, IsDamageAt}
 use Rattle.table_cursor.specs.Page.{Reading}
 use Rattle.table_cursor.specs.Standing.{joined, entries_before, OnPage}
 use Rattle.table_cursor.specs.Steps.{where_block}
@@ -80,19 +80,20 @@ module _ {F : Type 0} (g : Ghosts F) (t : TableParts F) (es : List Entry) (table
       honest.there ∙ ap Some (sym (one page.entries b (block_bytes b) (subst (IsBlock page.entries) bytes form) honest.form))
 
   -- a table that holds entries has no damage
-  pub never_damaged : (number at : ℕ) → IsDamageOf g t number at → ⊥
-  never_damaged number at damage =
-      let honest = honest_block damage.index (get_inside t.items damage.index damage.item damage.indexed) in
+  pub never_damaged : (index number at : ℕ) → IsDamageAt g t index number at → ⊥
+  never_damaged index number at damage =
+      let honest = honest_block index (get_inside t.items index damage.item damage.indexed) in
       let b = honest.block in
-      let same : damage.item ≡ item_of honest.at b = item_is damage.item (item_of honest.at b) (sym damage.indexed ∙ honest.agrees.indexed) in
+      let same : damage.item ≡ item_of honest.at b =
+      item_is damage.item (item_of honest.at b) (sym damage.indexed ∙ honest.agrees.indexed) in
       let at_is : honest.at ≡ at = sym (damage.place ∙ ap (λ (i : IndexItem). i.place) same) in
       let long : length (block_bytes b) ≡ damage.item.len = sym (ap (λ (i : IndexItem). i.len) same) in
-      damage.none told b (subst (λ k. Agrees t.row t.items damage.index k b) at_is honest.agrees)
+      damage.none told b (subst (λ k. Agrees t.row t.items index k b) at_is honest.agrees)
       (subst (IsBlock b) (sym honest.bytes ∙ (λ i. take (long i) (drop (at_is i) (g.bytes t.file)))) honest.form)
 
   -- turning to a block of a table that holds entries shows its first entry
   pub turned : OneBlock → (index : ℕ) (page : Reading) (r : Result (Unit {0}) ReadFault) → index < length t.items
-      → OnOk r (ShowsOf g t index page) → OnOk r (IsBlock page.entries page.bytes) → OnOk r (page.place ≡ 0) → OnErr r (page.entries ≡ []) → IfDamage r (IsDamageOf g t)
+      → OnOk r (ShowsOf g t index page) → OnOk r (IsBlock page.entries page.bytes) → OnOk r (page.place ≡ 0) → OnErr r (page.entries ≡ []) → IfDamage r (IsDamageAt g t index)
       → LeadsTo (OnPage page index (blocks_of table.full es) es) (where_block index (blocks_of table.full es) (entries_before index (blocks_of table.full es))) r
   turned one index page (Ok x) lt shows form first empty damaged =
       let blocks = blocks_of table.full es in
@@ -107,4 +108,4 @@ module _ {F : Type 0} (g : Ghosts F) (t : TableParts F) (es : List Entry) (table
       }
   turned one index page (Err Fault) lt shows form first empty damaged =
       nothing_shown page index (blocks_of table.full es) es whole are empty
-  turned one index page (Err (Damaged n at)) lt shows form first empty damaged = never_damaged n at damaged
+  turned one index page (Err (Damaged n at)) lt shows form first empty damaged = never_damaged index n at damaged

@@ -15,7 +15,7 @@ use Rattle.table_file.specs.Form.{blocks_of, items_from, item_of}
 use Rattle.table_file.specs.Items.{index_for}
 use Rattle.table_file.specs.Tables.{TableParts, Holds}
 use Rattle.table_file.specs.declared.index_item.IndexItem.{IndexItem}
-use Rattle.table_cursor.specs.Agreeing.{ShowsOf, IsDamageOf}
+use Rattle.table_cursor.specs.Agreeing.{ShowsOf, IsDamageAt}
 use Rattle.table_cursor.specs.IndexLaws.{get_inside, item_is}
 use Rattle.table_cursor.specs.Looking.{newest_of, Finds, IsFound, IsLookedUp}
 use Rattle.table_cursor.specs.Walking.{CanBeRead}
@@ -57,10 +57,10 @@ module _ {F : Type 0} (g : Ghosts F) (t : TableParts F) where
       let lt = find_inside key number t.row t.items index item.place read.entries read.agrees is read.form.some in
       ap (newest_of key number) (sym whole) ∙ in_block key number blocks read.entries (subst AreSorted (sym whole) holds.table.sorted) are by_index lt
 
-  pub no_damage : (es : List Entry) (holds : Holds g t es) → IsTrue g.tells → joined (blocks_of holds.full es) ≡ es → AreBlocks (blocks_of holds.full es) → (wanted : Option Entry) (fault : ReadFault)
-      → IfDamage {T = ℕ} (Err fault) (IsDamageOf g t) → Finds wanted (Err fault)
-  no_damage es holds told whole are wanted Fault damage = tt
-  no_damage es holds told whole are wanted (Damaged n at) damage = never_damaged g t es holds told whole are n at damage
+  pub no_damage : (es : List Entry) (holds : Holds g t es) → IsTrue g.tells → joined (blocks_of holds.full es) ≡ es → AreBlocks (blocks_of holds.full es) → (wanted : Option Entry) (index : ℕ) (fault : ReadFault)
+      → IfDamage {T = ℕ} (Err fault) (IsDamageAt g t index) → Finds wanted (Err fault)
+  no_damage es holds told whole are wanted index Fault damage = tt
+  no_damage es holds told whole are wanted index (Damaged n at) damage = never_damaged g t es holds told whole are index n at damage
 
   pub is_found : (key : Bytes) (number index : ℕ) (item : IndexItem) (count : ℕ) (buffer : List ℕ) → slice_get t.items index ≡ Some item → (read : KnownBlock g t index item count buffer)
       → (found : Option EntryRef) → option_map entry_of found ≡ newest_of key number read.entries → IfSome found (λ e. IsFound g t key number (entry_of e))

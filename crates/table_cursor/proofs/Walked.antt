@@ -1,6 +1,5 @@
 -- How a step carries a walk on, and how many steps it leaves.
 use Rattle.std.proofs.Common.{◌≡◌, ℕ, zero, suc, ◌+◌, ◌-◌, ◌<◌, ◌≤◌, ◌∙◌, ◌⊎◌, inl, inr, true, false, List, [], ◌∷◌, ◌++◌, length, take, Option, Some, None, Result, Ok, Err, OnOk, OnErr, refl, sym, ap, subst, arith, append_assoc}
-use Rattle.std.specs.Result.{result_err}
 use Rattle.std.specs.Prelude.{slice_get, nat_lt, ◌==◌, if◌then◌else◌}
 use Rattle.std.proofs.lemmas.Bool.{cases_lt}
 use Rattle.std.proofs.lemmas.Bool.Decides.{nat_tests}
@@ -16,7 +15,7 @@ use Rattle.table_cursor.specs.Agreeing.{ShowsOf}
 use Rattle.table_cursor.specs.IndexLaws.{get_inside}
 use Rattle.table_cursor.specs.Page.{Reading}
 use Rattle.table_cursor.specs.Spots.{where_some, spot, first_spot, last_spot, spot_in, spot_behind, next_spot, spot_before, previous_spot}
-use Rattle.table_cursor.specs.Walking.{ReadInOrder, by_entries, blocks_passed, WalkedOver, Walks, most_steps, steps_ahead, steps_back}
+use Rattle.table_cursor.specs.Walking.{ReadInOrder, by_entries, blocks_passed, WalkedOver, most_steps, steps_ahead, steps_back}
 use Rattle.table_cursor.specs.WalkLaws.{take_on, page_read}
 
 -- ---- what is shown
@@ -271,12 +270,11 @@ module _ {F : Type 0} (g : Ghosts F) (t : TableParts F) (index : ℕ) (page : Re
 
   -- ---- the same of a move that may be refused
 
-  pub walks_on : (r : Result (Unit {0}) ReadFault) (refused0 refused : Option ReadFault) (aim : Option (ℕ × ℕ)) → refused ≡ result_err r → AreSorted page.entries → (now : ℕ) (new : Reading)
+  pub walks_on : (r : Result (Unit {0}) ReadFault) (aim : Option (ℕ × ℕ)) → AreSorted page.entries → (now : ℕ) (new : Reading)
       → (page.place + 1 < length page.entries → GoesWithin page index (page.place + 1) new now) → OnOk r (spot now new ≡ aim) → aim ≡ next_spot t.items index page
-      → OnOk r ((es : List Entry) (e : Entry) → slice_get page.entries page.place ≡ Some e → Walks g t index page refused0 es → Walks g t now new refused (es ++ e ∷ []))
-  walks_on (Ok x) refused0 refused aim none sorted now new within lands is = λ es e there w.
-      record { over = walk_on sorted now new es e within (lands ∙ is) there w.over; unrefused = none }
-  walks_on (Err x) refused0 refused aim none sorted now new within lands is = tt
+      → OnOk r ((es : List Entry) (e : Entry) → slice_get page.entries page.place ≡ Some e → WalkedOver g t index page es → WalkedOver g t now new (es ++ e ∷ []))
+  walks_on (Ok x) aim sorted now new within lands is = λ es e there w. walk_on sorted now new es e within (lands ∙ is) there w
+  walks_on (Err x) aim sorted now new within lands is = tt
 
   pub steps_on : (r : Result (Unit {0}) ReadFault) (aim : Option (ℕ × ℕ)) (now : ℕ) (new : Reading) (e : Entry) → (page.place + 1 < length page.entries → GoesWithin page index (page.place + 1) new now)
       → OnOk r (spot now new ≡ aim) → aim ≡ next_spot t.items index page → OnErr r (new.entries ≡ []) → slice_get page.entries page.place ≡ Some e

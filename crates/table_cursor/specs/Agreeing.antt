@@ -54,11 +54,19 @@ pub record IsOfBlock {F : Type 0} (g : Ghosts F) (t : TableParts F) (entry : Ent
   pub shows : ShowsOf g t index page
   pub there : slice_get page.entries page.place ≡ Some entry
 
--- at this place of the table of this number begins a block by the index, where no bytes of a block that agrees with the table stand in the file, if that is told
-pub record IsDamageOf {F : Type 0} (g : Ghosts F) (t : TableParts F) (number at : ℕ) : Type 0 where
-  pub index : ℕ
+-- at this place of the table of this number begins the block at an index, where no bytes of a block
+-- that agrees with the table stand in the file, if that is told
+pub record IsDamageAt {F : Type 0} (g : Ghosts F) (t : TableParts F) (index number at : ℕ)
+    : Type 0 where
   pub item : IndexItem
   pub number_is : number ≡ t.row.number
   pub indexed : slice_get t.items index ≡ Some item
   pub place : at ≡ item.place
-  pub none : IsTrue g.tells → (es : List Entry) → Agrees t.row t.items index at es → IsBlock es (take item.len (drop at (g.bytes t.file))) → ⊥
+  pub none : IsTrue g.tells → (es : List Entry) → Agrees t.row t.items index at es
+      → IsBlock es (take item.len (drop at (g.bytes t.file))) → ⊥
+
+-- such damage stands at some block of the table
+pub record IsDamageOf {F : Type 0} (g : Ghosts F) (t : TableParts F) (number at : ℕ)
+    : Type 0 where
+  pub index : ℕ
+  pub is : IsDamageAt g t index number at

@@ -1,5 +1,5 @@
 -- Where a step of a cursor leads.
-use Rattle.std.specs.Prelude.{ℕ, suc, ◌+◌, ◌-◌, ◌<◌, List, length, nat_lt, if◌then◌else◌, Option, Some, None}
+use Rattle.std.specs.Prelude.{◌≡◌, ℕ, suc, ◌+◌, ◌-◌, ◌<◌, List, length, nat_lt, if◌then◌else◌, Option, Some, None}
 use Rattle.peb_base.specs.declared.entry.Entry.{Entry}
 use Rattle.table_cursor.specs.Page.{Reading}
 use Rattle.table_cursor.specs.Standing.{entries_before}
@@ -23,3 +23,10 @@ Fits Nowhere page = Unit {0}
 Fits (Within place) page = place < length page.entries
 Fits (First i) page = Unit {0}
 Fits (Last i) page = Unit {0}
+
+-- a step that turns to another block turns to the one at this index
+abbrev pub TurnsTo : Step → ℕ → Type 0
+TurnsTo Nowhere index = Unit {0}
+TurnsTo (Within place) index = Unit {0}
+TurnsTo (First i) index = i ≡ index
+TurnsTo (Last i) index = i ≡ index

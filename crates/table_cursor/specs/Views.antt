@@ -1,17 +1,20 @@
 -- What contracts see of a cursor over a table.
-use Rattle.std.specs.Prelude.{◌≡◌, ◌↔◌, ℕ, List, Option, length, slice_get}
+use Rattle.std.specs.Prelude.{◌≡◌, ◌↔◌, ℕ, List, [], Option, Result, Ok, Err, OnErr, length, slice_get}
 use Rattle.std.proofs.Common.{◌∙◌, sym, subst}
 use Rattle.std.specs.Arc.{arc_value}
 use Rattle.disk_model.specs.declared.port.Port.{Ghosts}
 use Rattle.disk_model.specs.declared.table_handle.TableHandle as handles
+use Rattle.peb_base.specs.Cursors.{IfDamage}
 use Rattle.peb_base.specs.declared.entry.Entry.{Entry}
 use Rattle.peb_base.specs.declared.read_fault.ReadFault.{ReadFault}
+use Rattle.peb_base.specs.declared.read_fault.ReadFault.TheVariants.{Fault, Damaged}
+use Rattle.disk_model.specs.Ports.{ReadsAtMost}
 use Rattle.table_file.specs.Tables.{TableParts}
-use Rattle.table_cursor.specs.Agreeing.{IsDamageOf, IsOfBlock}
+use Rattle.table_cursor.specs.Agreeing.{IsDamageAt, IsDamageOf, IsOfBlock}
 use Rattle.table_cursor.specs.Page.{Reading}
 use Rattle.table_cursor.specs.Spots.{spot}
 use Rattle.table_cursor.specs.Standing.{StandsAt}
-use Rattle.table_cursor.specs.Walking.{Walks, most_steps, steps_ahead, steps_back}
+use Rattle.table_cursor.specs.Walking.{WalkedOver, most_steps, steps_ahead, steps_back}
 use Rattle.table_cursor.specs.declared.table_cursor.TableCursor.{TableCursor}
 
 module _ {P F : Type 0} {p : Ghosts P F} {f : handles.Ghosts F} where
@@ -53,7 +56,7 @@ module _ {P F : Type 0} {p : Ghosts P F} {f : handles.Ghosts F} where
 
   -- it can have gone over these entries since its first one
   abbrev pub WalksIn : TableCursor P F p f → List Entry → Type 0
-  WalksIn c es = Walks f (table_of c) (index_of c) (page_of c) (refused_of c) es
+  WalksIn c es = WalkedOver f (table_of c) (index_of c) (page_of c) es
 
   -- how many steps on there are at most, and how many back
   abbrev pub ahead_of : TableCursor P F p f → ℕ
@@ -69,9 +72,22 @@ module _ {P F : Type 0} {p : Ghosts P F} {f : handles.Ghosts F} where
   abbrev pub DamageIn : TableCursor P F p f → ℕ → ℕ → Type 0
   DamageIn c number at = IsDamageOf f (table_of c) number at
 
+  -- damage stands there, at the block of this index
+  abbrev pub DamageAt : TableCursor P F p f → ℕ → ℕ → ℕ → Type 0
+  DamageAt c index number at = IsDamageAt f (table_of c) index number at
+
   -- the entry is one of a block of its table
   abbrev pub IsOfTable : TableCursor P F p f → Entry → Type 0
   IsOfTable c e = IsOfBlock f (table_of c) e
+
+-- a move with one read at most keeps the table, and shows nothing where it is refused; a steady port
+-- never fails it
+pub record Turns {P F : Type 0} {p : Ghosts P F} {f : handles.Ghosts F} (old new : TableCursor P F p f)
+    (result : Result (Unit {0}) ReadFault) : Type 0 where
+  pub table : new.table ≡ old.table
+  pub nothing : OnErr result ((page_of new).entries ≡ [])
+  pub port : ReadsAtMost p 1 (port_of old) (port_of new) (result ≡ Err Fault)
+  pub sure : p.steady (port_of old) → result ≡ Err Fault → ⊥
 
 -- what no move changes: the handle of the table is the same, the port has its tables still, and is steady where it was
 pub record Keeps {P F : Type 0} {p : Ghosts P F} {f : handles.Ghosts F} (a b : TableCursor P F p f) : Type 0 where
@@ -85,6 +101,13 @@ module _ {P F : Type 0} {p : Ghosts P F} {f : handles.Ghosts F} where
 
   pub keeps_on : (a b c : TableCursor P F p f) → Keeps a b → Keeps b c → Keeps a c
   keeps_on a b c x y = record { table = y.table ∙ x.table; files = y.files ∙ x.files; steady = λ s. y.steady (x.steady s) }
+
+  -- damage of one block is damage of the table
+  pub damage_in : {T : Type 0} (c : TableCursor P F p f) (index : ℕ) (r : Result T ReadFault)
+      → IfDamage r (DamageAt c index) → IfDamage r (DamageIn c)
+  damage_in c index (Ok x) damage = tt
+  damage_in c index (Err Fault) damage = tt
+  damage_in c index (Err (Damaged number at)) damage = record { index = index; is = damage }
 
   pub keeps_damage : (a b : TableCursor P F p f) (number at : ℕ) → Keeps a b → DamageIn a number at ↔ DamageIn b number at
   keeps_damage a b number at x =

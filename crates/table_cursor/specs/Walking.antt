@@ -5,7 +5,6 @@ use Rattle.peb_base.specs.Entries.{AreSorted}
 use Rattle.peb_base.specs.Tables.{first_key, last_key, least_number, greatest_number}
 use Rattle.peb_base.specs.declared.entry.Entry.{Entry}
 use Rattle.peb_base.specs.declared.table_row.TableRow.{TableRow}
-use Rattle.peb_base.specs.declared.read_fault.ReadFault.{ReadFault}
 use Rattle.table_file.specs.Tables.{TableParts}
 use Rattle.table_cursor.specs.Agreeing.{ShowsOf}
 use Rattle.table_cursor.specs.Page.{Reading}
@@ -36,11 +35,6 @@ pub record WalkedOver {F : Type 0} (g : Ghosts F) (t : TableParts F) (index : �
   pub front : List Entry
   pub were : ReadInOrder g t (blocks_passed (length t.items) index page) front
   pub is : es ≡ front ++ take page.place page.entries
-
--- nothing was refused since the walk began, and these entries were gone over
-pub record Walks {F : Type 0} (g : Ghosts F) (t : TableParts F) (index : ℕ) (page : Reading) (refused : Option ReadFault) (es : List Entry) : Type 0 where
-  pub over : WalkedOver g t index page es
-  pub unrefused : refused ≡ None
 
 -- how many steps there are at most in so many blocks: a block has at most 40,960 bytes, and an entry at least one
 abbrev pub most_steps : ℕ → ℕ

@@ -4,7 +4,7 @@ ghost use Rattle.std.specs.Prelude.{◌≡◌, ◌≤◌, ◌<◌, ◌+◌, IsTr
 ghost use Rattle.disk_model.specs.Images.{HasCause};
 ghost use Rattle.peb_base.specs.Cursors.{IfDamage};
 ghost use Rattle.disk_model.specs.Ports.{ReadsAtMost};
-ghost use Rattle.table_cursor.specs.Agreeing.{IsDamageOf};
+ghost use Rattle.table_cursor.specs.Agreeing.{IsDamageAt};
 ghost use Rattle.table_cursor.specs.Fetching.{Fetched};
 ghost use Rattle.peb_base.specs.declared.read_fault.ReadFault.TheVariants as faults;
 
@@ -64,7 +64,7 @@ pub fn fetch<P: Port>(
 ) -> Result<usize, ReadFault>
     requires { index < length table.now.items }
     ensures fetched { IfOk result (λ count. Fetched P.File.TableHandle table.now index count loan.new) }
-    ensures damaged { IfDamage result (IsDamageOf P.File.TableHandle table.now) }
+    ensures damaged { IfDamage result (IsDamageAt P.File.TableHandle table.now index) }
     ensures port { ReadsAtMost P.Port 1 port.old port.new (result ≡ Err faults.Fault) }
     ensures sure { P.steady port.old → result ≡ Err faults.Fault → ⊥ }
 {

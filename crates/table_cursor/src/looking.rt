@@ -7,8 +7,9 @@ ghost use Rattle.peb_base.specs.declared.entry.Entry.{Entry};
 ghost use Rattle.peb_base.specs.declared.read_fault.ReadFault.TheVariants as faults;
 ghost use Rattle.block_form.specs.Form.{IsBlock};
 ghost use Rattle.disk_model.specs.Ports.{ReadsAtMost};
+ghost use Rattle.table_file.specs.Items.{index_for};
 ghost use Rattle.table_file.specs.Tables.{Holds};
-ghost use Rattle.table_cursor.specs.Agreeing.{IsDamageOf};
+ghost use Rattle.table_cursor.specs.Agreeing.{IsDamageAt};
 ghost use Rattle.table_cursor.specs.Looking.{newest_of, Finds, IsFound, IsLookedUp};
 
 use crate::fetching::fetch;
@@ -61,7 +62,8 @@ pub fn look_up<'k, P: Port>(
         IsLookedUp P.File.TableHandle table.now key.now number (option_map entry_of found)) }
     ensures own { IfOk result (λ found. IfSome found (λ e. IsFound P.File.TableHandle table.now key.now number (entry_of e))) }
     // when it fails
-    ensures damage { IfDamage result (IsDamageOf P.File.TableHandle table.now) }
+    ensures damage { IfDamage result
+        (IsDamageAt P.File.TableHandle table.now (index_for key.now number table.now.items)) }
     ensures sure { P.steady port.old → result ≡ Err faults.Fault → ⊥ }
     // what stays
     ensures port { ReadsAtMost P.Port 1 port.old port.new (result ≡ Err faults.Fault) }

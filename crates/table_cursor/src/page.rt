@@ -9,7 +9,7 @@ ghost use Rattle.block_form.specs.Walks.{entries_in};
 ghost use Rattle.peb_base.specs.Cursors.{IfDamage};
 ghost use Rattle.disk_model.specs.Ports.{ReadsAtMost};
 ghost use Rattle.peb_base.specs.declared.read_fault.ReadFault.TheVariants as faults;
-ghost use Rattle.table_cursor.specs.Agreeing.{IsDamageOf};
+ghost use Rattle.table_cursor.specs.Agreeing.{IsDamageAt};
 
 use crate::fetching::fetch;
 use block_form::{Block, block_reads, one_block};
@@ -131,7 +131,7 @@ impl Page {
         ensures first { OnOk result (self.new.place ≡ 0) }
         ensures empty { OnErr result (self.new.entries ≡ []) }
         // when it fails
-        ensures damaged { IfDamage result (IsDamageOf P.File.TableHandle table.now) }
+        ensures damaged { IfDamage result (IsDamageAt P.File.TableHandle table.now index) }
         ensures port { ReadsAtMost P.Port 1 port.old port.new (result ≡ Err faults.Fault) }
         ensures sure { P.steady port.old → result ≡ Err faults.Fault → ⊥ }
     {

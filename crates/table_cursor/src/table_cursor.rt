@@ -10,11 +10,11 @@ ghost use Rattle.table_file.specs.Form.{blocks_of};
 ghost use Rattle.table_file.specs.Items.{index_for};
 ghost use Rattle.disk_model.specs.Ports.{ReadsAtMost};
 ghost use Rattle.table_file.specs.Tables.{Holds};
-ghost use Rattle.table_cursor.specs.Agreeing.{ShowsOf, IsDamageOf};
+ghost use Rattle.table_cursor.specs.Agreeing.{ShowsOf, IsDamageAt};
 ghost use Rattle.table_cursor.specs.Page.{Reading};
 ghost use Rattle.table_cursor.specs.Spots.{spot, first_spot, last_spot, next_spot, previous_spot, found_spot, spot_after};
 ghost use Rattle.table_cursor.specs.Standing.{OnPage};
-ghost use Rattle.table_cursor.specs.Steps.{target, Fits};
+ghost use Rattle.table_cursor.specs.Steps.{target, Fits, TurnsTo};
 ghost use Rattle.table_cursor.specs.WalkLaws.{AscendFrom-prop};
 
 use crate::page::Page;
@@ -40,7 +40,7 @@ pub struct TableCursor<P: Port> {
 }
 
 impl<P: Port> TableCursor<P> {
-    ghost use Rattle.table_cursor.specs.Views.{table_of, port_of, page_of, index_of, refused_of, shown_by, spot_of, StandsIn};
+    ghost use Rattle.table_cursor.specs.Views.{table_of, port_of, page_of, index_of, refused_of, shown_by, spot_of, StandsIn, Turns};
 
     /// A cursor over the entries of a table, at no place. It makes no read yet, and no call of it takes memory.
     pub fn open(table: Arc<Table<P::File>, Global>, port: P, loan: Loan) -> TableCursor<P>
@@ -98,6 +98,7 @@ impl<P: Port> TableCursor<P> {
     /// One entry on.
     fn next_step(&self) -> Step
         ensures fits { Fits result self.now.page }
+        ensures turns { TurnsTo result (self.now.index + 1) }
         ensures stays { length self.now.page.entries ≡ 0 → result ≡ Step.Nowhere }
         ensures leads { (es : List Entry) → (holds : Holds P.File.TableHandle (arc_value self.now.table) es) → (place : Option ℕ) → OnPage self.now.page self.now.index (blocks_of holds.full es) es place
             → target result self.now.index (blocks_of holds.full es) ≡ next_place es place }
@@ -121,6 +122,7 @@ impl<P: Port> TableCursor<P> {
     /// One entry back.
     fn previous_step(&self) -> Step
         ensures fits { Fits result self.now.page }
+        ensures turns { TurnsTo result (self.now.index - 1) }
         ensures stays { length self.now.page.entries ≡ 0 → result ≡ Step.Nowhere }
         ensures leads { (es : List Entry) → (holds : Holds P.File.TableHandle (arc_value self.now.table) es) → (place : Option ℕ) → OnPage self.now.page self.now.index (blocks_of holds.full es) es place
             → target result self.now.index (blocks_of holds.full es) ≡ previous_place place }
@@ -143,6 +145,7 @@ impl<P: Port> TableCursor<P> {
     /// To the last entry.
     fn last_step(&self) -> Step
         ensures fits { Fits result self.now.page }
+        ensures turns { TurnsTo result (length (arc_value self.now.table).items - 1) }
         ensures leads { (es : List Entry) → (holds : Holds P.File.TableHandle (arc_value self.now.table) es)
             → target result self.now.index (blocks_of holds.full es) ≡ last_place es }
         ensures lands { (now : Reading) → spot_after result (arc_value self.now.table).items self.now.index now ≡ last_spot (arc_value self.now.table).items (length (arc_value self.now.table).items - 1) now }
@@ -157,11 +160,8 @@ impl<P: Port> TableCursor<P> {
             → IsTrue P.File.tells → LeadsTo (OnPage self.new.page self.new.index (blocks_of holds.full es) es) (target (Step.First index) self.old.index (blocks_of holds.full es)) result }
         ensures index { self.new.index ≡ index }
         ensures lands { OnOk result (spot self.new.index self.new.page ≡ first_spot (arc_value self.old.table).items index) }
-        ensures table { self.new.table ≡ self.old.table }
-        ensures nothing { OnErr result (self.new.page.entries ≡ []) }
-        ensures damaged { IfDamage result (IsDamageOf P.File.TableHandle (arc_value self.old.table)) }
-        ensures port { ReadsAtMost P.Port 1 self.old.port self.new.port (result ≡ Err faults.Fault) }
-        ensures sure { P.steady self.old.port → result ≡ Err faults.Fault → ⊥ }
+        ensures damage { IfDamage result (IsDamageAt P.File.TableHandle (arc_value self.old.table) index) }
+        ensures turns { Turns self.old self.new result }
     {
         law_blocks();
         one_block();
@@ -178,11 +178,8 @@ impl<P: Port> TableCursor<P> {
         ensures leads { (es : List Entry) → (holds : Holds P.File.TableHandle (arc_value self.old.table) es)
             → IsTrue P.File.tells → LeadsTo (OnPage self.new.page self.new.index (blocks_of holds.full es) es) (target (Step.Last index) self.old.index (blocks_of holds.full es)) result }
         ensures lands { OnOk result (spot self.new.index self.new.page ≡ last_spot (arc_value self.old.table).items index self.new.page) }
-        ensures table { self.new.table ≡ self.old.table }
-        ensures nothing { OnErr result (self.new.page.entries ≡ []) }
-        ensures damaged { IfDamage result (IsDamageOf P.File.TableHandle (arc_value self.old.table)) }
-        ensures port { ReadsAtMost P.Port 1 self.old.port self.new.port (result ≡ Err faults.Fault) }
-        ensures sure { P.steady self.old.port → result ≡ Err faults.Fault → ⊥ }
+        ensures damage { IfDamage result (IsDamageAt P.File.TableHandle (arc_value self.old.table) index) }
+        ensures turns { Turns self.old self.new result }
     {
         match self.show(index) {
             Ok(()) => {}
@@ -197,17 +194,15 @@ impl<P: Port> TableCursor<P> {
     /// Makes a step.
     fn go(&mut self, step: Step) -> Result<(), ReadFault>
         requires { Fits step self.old.page }
-        ensures stays { step ≡ Step.Nowhere → IsOk result × (self.new.page.entries ≡ []) }
+        ensures stays { step ≡ Step.Nowhere → IsOk result × (self.new.page.entries ≡ []) × (self.new.port ≡ self.old.port) }
         ensures lands { OnOk result (spot self.new.index self.new.page ≡ spot_after step (arc_value self.old.table).items self.old.index self.new.page) }
         ensures within { (place : ℕ) → step ≡ Step.Within place →
             IsOk result × (self.new.page ≡ record self.old.page { place = place }) × (self.new.index ≡ self.old.index) × (self.new.port ≡ self.old.port) }
         ensures leads { (es : List Entry) → (holds : Holds P.File.TableHandle (arc_value self.old.table) es) → (place : Option ℕ) → OnPage self.old.page self.old.index (blocks_of holds.full es) es place
             → IsTrue P.File.tells → LeadsTo (OnPage self.new.page self.new.index (blocks_of holds.full es) es) (target step self.old.index (blocks_of holds.full es)) result }
-        ensures table { self.new.table ≡ self.old.table }
-        ensures nothing { OnErr result (self.new.page.entries ≡ []) }
-        ensures damaged { IfDamage result (IsDamageOf P.File.TableHandle (arc_value self.old.table)) }
-        ensures port { ReadsAtMost P.Port 1 self.old.port self.new.port (result ≡ Err faults.Fault) }
-        ensures sure { P.steady self.old.port → result ≡ Err faults.Fault → ⊥ }
+        ensures damage { (index : ℕ) → TurnsTo step index →
+            IfDamage result (IsDamageAt P.File.TableHandle (arc_value self.old.table) index) }
+        ensures turns { Turns self.old self.new result }
     {
         match step {
             Step::Nowhere => {
@@ -230,11 +225,9 @@ impl<P: Port> TableCursor<P> {
         ensures behind { (e : Entry) → slice_get self.new.page.entries self.new.page.place ≡ Some e
             → comes_before e.key e.number key.now number ≡ false }
         ensures lands { OnOk result (spot self.new.index self.new.page ≡ found_spot (arc_value self.old.table).items key.now number self.new.page) }
-        ensures table { self.new.table ≡ self.old.table }
-        ensures nothing { OnErr result (self.new.page.entries ≡ []) }
-        ensures damaged { IfDamage result (IsDamageOf P.File.TableHandle (arc_value self.old.table)) }
-        ensures port { ReadsAtMost P.Port 1 self.old.port self.new.port (result ≡ Err faults.Fault) }
-        ensures sure { P.steady self.old.port → result ≡ Err faults.Fault → ⊥ }
+        ensures damage { IfDamage result (IsDamageAt P.File.TableHandle (arc_value self.old.table)
+            (index_for key.now number (arc_value self.old.table).items)) }
+        ensures turns { Turns self.old self.new result }
     {
         law_blocks();
         let index = self.table.block_index(key, number);
@@ -259,9 +252,10 @@ impl<P: Port> Cursor for TableCursor<P> {
     ghost use Rattle.peb_base.specs.declared.entry.Entry.{Entry};
     ghost use Rattle.peb_base.specs.declared.read_fault.ReadFault.TheVariants as faults;
     ghost use Rattle.disk_model.specs.Ports.{ReadsAtMost};
+    ghost use Rattle.table_file.specs.Items.{index_for};
     ghost use Rattle.table_cursor.specs.Spots.{first_spot, last_spot, next_spot, previous_spot, found_spot};
     ghost use Rattle.table_cursor.specs.StandingLaws.{stands_among};
-    ghost use Rattle.table_cursor.specs.Views.{table_of, port_of, page_of, index_of, refused_of, blocks_in, shown_by, spot_of, ahead_of, back_of, size_of, StandsIn, WalksIn, DamageIn, IsOfTable, Keeps, keeps_self, keeps_on, keeps_damage};
+    ghost use Rattle.table_cursor.specs.Views.{table_of, port_of, page_of, index_of, refused_of, blocks_in, shown_by, spot_of, ahead_of, back_of, size_of, StandsIn, WalksIn, DamageIn, DamageAt, IsOfTable, Keeps, keeps_self, keeps_on, keeps_damage};
     ghost use Rattle.table_cursor.specs.Walking.{most_steps};
     ghost use Rattle.table_cursor.specs.WalkLaws.{entry_within, walk_ascends, steps_bounded};
 
@@ -289,7 +283,7 @@ impl<P: Port> Cursor for TableCursor<P> {
 
     ghost within = { λ cursor e there. entry_within [] 0 (page_of cursor).entries (page_of cursor).place e cursor.sorted there };
 
-    ghost ascends = { λ cursor es e walks there. walk_ascends P.File.TableHandle (table_of cursor) (index_of cursor) (page_of cursor) es e cursor.shown cursor.sorted walks.over there };
+    ghost ascends = { λ cursor es e walks there. walk_ascends P.File.TableHandle (table_of cursor) (index_of cursor) (page_of cursor) es e cursor.shown cursor.sorted walks there };
 
     ghost bounded = { λ cursor. steps_bounded P.File.TableHandle (table_of cursor) (index_of cursor) (page_of cursor) cursor.shown };
 
@@ -316,6 +310,7 @@ impl<P: Port> Cursor for TableCursor<P> {
         ensures refused { refused_of self.new ≡ refusal result }
         // when it fails
         ensures counts { CountsFaults (P.faults (port_of self.old)) (P.faults (port_of self.new)) result }
+        ensures damaged { IfDamage result (DamageAt self.new (index_for key.now number (table_of self.old).items)) }
         ensures damage { IfDamage result (DamageIn self.new) }
         ensures sure { P.steady (port_of self.old) → result ≡ Err faults.Fault → ⊥ }
         // what stays
@@ -339,6 +334,7 @@ impl<P: Port> Cursor for TableCursor<P> {
         ensures refused { refused_of self.new ≡ refusal result }
         // when it fails
         ensures counts { CountsFaults (P.faults (port_of self.old)) (P.faults (port_of self.new)) result }
+        ensures damaged { IfDamage result (DamageAt self.new (0)) }
         ensures damage { IfDamage result (DamageIn self.new) }
         ensures sure { P.steady (port_of self.old) → result ≡ Err faults.Fault → ⊥ }
         // what stays
@@ -361,6 +357,7 @@ impl<P: Port> Cursor for TableCursor<P> {
         ensures refused { refused_of self.new ≡ refusal result }
         // when it fails
         ensures counts { CountsFaults (P.faults (port_of self.old)) (P.faults (port_of self.new)) result }
+        ensures damaged { IfDamage result (DamageAt self.new (blocks_in self.old - 1)) }
         ensures damage { IfDamage result (DamageIn self.new) }
         ensures sure { P.steady (port_of self.old) → result ≡ Err faults.Fault → ⊥ }
         // what stays
@@ -394,7 +391,9 @@ impl<P: Port> Cursor for TableCursor<P> {
         ensures refused { refused_of self.new ≡ refusal result }
         // when it fails
         ensures counts { CountsFaults (P.faults (port_of self.old)) (P.faults (port_of self.new)) result }
+        ensures damaged { IfDamage result (DamageAt self.new (index_of self.old + 1)) }
         ensures damage { IfDamage result (DamageIn self.new) }
+        ensures unread { shown_by self.old ≡ None → port_of self.new ≡ port_of self.old }
         ensures sure { P.steady (port_of self.old) → result ≡ Err faults.Fault → ⊥ }
         // what stays
         ensures port { ReadsAtMost P.Port 1 (port_of self.old) (port_of self.new) (result ≡ Err faults.Fault) }
@@ -425,7 +424,9 @@ impl<P: Port> Cursor for TableCursor<P> {
         ensures refused { refused_of self.new ≡ refusal result }
         // when it fails
         ensures counts { CountsFaults (P.faults (port_of self.old)) (P.faults (port_of self.new)) result }
+        ensures damaged { IfDamage result (DamageAt self.new (index_of self.old - 1)) }
         ensures damage { IfDamage result (DamageIn self.new) }
+        ensures unread { shown_by self.old ≡ None → port_of self.new ≡ port_of self.old }
         ensures sure { P.steady (port_of self.old) → result ≡ Err faults.Fault → ⊥ }
         // what stays
         ensures port { ReadsAtMost P.Port 1 (port_of self.old) (port_of self.new) (result ≡ Err faults.Fault) }

@@ -5,4 +5,4 @@ use Rattle.table_cursor.proofs.laws.law_walk_ascends.Goals as goal
 pub returns : goal.returns
 returns g c = λ es e walks there.
     let cursor = c.args.cursor.now in
-    walk_behind g.P.File.TableHandle (table_of cursor) (index_of cursor) (page_of cursor) es e cursor.shown cursor.sorted walks.over there
+    walk_behind g.P.File.TableHandle (table_of cursor) (index_of cursor) (page_of cursor) es e cursor.shown cursor.sorted walks there

@@ -5,4 +5,4 @@ use Rattle.table_cursor.proofs.laws.law_walk_ends.Goals as goal
 pub returns : goal.returns
 returns g c = λ es walks none.
     let cursor = c.args.cursor.now in
-    walk_ends g.P.File.TableHandle (table_of cursor) (index_of cursor) (page_of cursor) es (λ some. (cursor.shown some).inside) c.blocks-2.ensures.some walks.over none
+    walk_ends g.P.File.TableHandle (table_of cursor) (index_of cursor) (page_of cursor) es (λ some. (cursor.shown some).inside) c.blocks-2.ensures.some walks none

@@ -8,4 +8,4 @@ returns g c = λ es walked place stands walks.
     let holds = stands.holds in
     let whole = c.law_blocks.ensures.joined holds.full es holds.least holds.most holds.table.sorted in
     let are = c.law_blocks.ensures.blocks holds.full es holds.least holds.most holds.table.sorted in
-    walk_told g.P.File.TableHandle (table_of cursor) c.one_block.ensures es holds stands.told whole are (index_of cursor) (page_of cursor) walked place (λ some. (cursor.shown some).inside) stands.on walks.over
+    walk_told g.P.File.TableHandle (table_of cursor) c.one_block.ensures es holds stands.told whole are (index_of cursor) (page_of cursor) walked place (λ some. (cursor.shown some).inside) stands.on walks

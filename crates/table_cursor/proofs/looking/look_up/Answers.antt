@@ -28,7 +28,7 @@ pub returns-in-Err-clause-told : goal.returns-in-Err-clause-told
 returns-in-Err-clause-told g c = λ es told holds.
     let whole = c.law_blocks.ensures.joined holds.full es holds.least holds.most holds.table.sorted in
     let are = c.law_blocks.ensures.blocks holds.full es holds.least holds.most holds.table.sorted in
-    no_damage g.P.File.TableHandle c.args.table.now es holds told whole are (newest_of c.args.key.now c.args.number es) c.in-Err.fault c.in-Err.ensures.damaged
+    no_damage g.P.File.TableHandle c.args.table.now es holds told whole are (newest_of c.args.key.now c.args.number es) c.block_index-index.result c.in-Err.fault c.in-Err.ensures.damaged
 
 pub returns-clause-told : goal.returns-clause-told
 returns-clause-told g c = λ es told holds.

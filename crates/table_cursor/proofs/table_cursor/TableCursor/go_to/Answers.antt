@@ -33,7 +33,7 @@ seek-requires g c =
     let table = arc_value c.args.self.now.table in
     let key = c.args.key.now in
     let some : 0 < length shown.page.entries = not_none (length shown.page.entries) c.is_empty.result c.if-is_empty.false c.is_empty.ensures.1 in
-    let shows = subst (λ t. ShowsOf g.P.File.TableHandle (arc_value t) shown.index shown.page) c.show.ensures.table (shown.shown some) in
+    let shows = subst (λ t. ShowsOf g.P.File.TableHandle (arc_value t) shown.index shown.page) c.show.ensures.turns.table (shown.shown some) in
     let index : shown.index ≡ index_for key c.args.number table.items = c.show.ensures.index ∙ c.block_index-index.ensures ∙ ap (λ t. index_for key c.args.number t.items) c.deref.ensures in
     find_inside key c.args.number table.row table.items shown.index shown.page.at shown.page.entries shows.agrees index some
 
@@ -45,7 +45,7 @@ returns-clause-leads g c = λ es holds told.
     let key = c.args.key.now in
     let n = first_from key c.args.number shown.page.entries in
     let some : 0 < length shown.page.entries = not_none (length shown.page.entries) c.is_empty.result c.if-is_empty.false c.is_empty.ensures.1 in
-    let shows = subst (λ t. ShowsOf g.P.File.TableHandle (arc_value t) shown.index shown.page) c.show.ensures.table (shown.shown some) in
+    let shows = subst (λ t. ShowsOf g.P.File.TableHandle (arc_value t) shown.index shown.page) c.show.ensures.turns.table (shown.shown some) in
     let same : shown.index ≡ index_for key c.args.number table.items = c.show.ensures.index ∙ c.block_index-index.ensures ∙ ap (λ t. index_for key c.args.number t.items) c.deref.ensures in
     let index : shown.index ≡ index_for key c.args.number (items_from 0 blocks) = same ∙ ap (index_for key c.args.number) holds.table.items_are in
     let on = subst (λ i. OnPage shown.page shown.index blocks es (where_block i blocks (entries_before i blocks))) (sym c.show.ensures.index) (c.in-Ok.ensures.leads es holds told) in
@@ -62,13 +62,13 @@ invariant_of-self g c =
     let some : 0 < length shown.page.entries = not_none (length shown.page.entries) c.is_empty.result c.if-is_empty.false c.is_empty.ensures.1 in
     let shows = shown.shown some in
     let same : shown.index ≡ index_for key c.args.number table.items =
-    c.show.ensures.index ∙ c.block_index-index.ensures ∙ ap (λ t. index_for key c.args.number t.items) c.deref.ensures ∙ sym (λ i. index_for key c.args.number (arc_value (c.show.ensures.table i)).items) in
+    c.show.ensures.index ∙ c.block_index-index.ensures ∙ ap (λ t. index_for key c.args.number t.items) c.deref.ensures ∙ sym (λ i. index_for key c.args.number (arc_value (c.show.ensures.turns.table i)).items) in
     let lt : n < length shown.page.entries = find_inside key c.args.number table.row table.items shown.index shown.page.at shown.page.entries shows.agrees same some in
     let both = subst (λ page. (0 < length page.entries → ShowsOf g.P.File.TableHandle table shown.index page) × AreSorted page.entries) (sym c.seek.ensures) ((λ s. shows_moved g.P.File.TableHandle table shows lt), shown.sorted) in
     record { shown = both.0; sorted = both.1 }
 
 pub returns-in-Err-clause-behind : goal.returns-in-Err-clause-behind
-returns-in-Err-clause-behind g c = λ e there. absurd (none_among _ _ e c.in-Err.ensures.nothing there)
+returns-in-Err-clause-behind g c = λ e there. absurd (none_among _ _ e c.in-Err.ensures.turns.nothing there)
 
 pub returns-then-is_empty-clause-behind : goal.returns-then-is_empty-clause-behind
 returns-then-is_empty-clause-behind g c = λ e there. absurd (none_among _ _ e (no_entries _ (c.is_empty.ensures.0 c.if-is_empty.true)) there)

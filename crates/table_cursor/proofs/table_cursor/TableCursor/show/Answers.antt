@@ -1,7 +1,7 @@
 use Rattle.std.proofs.Common.{◌≡◌, ◌<◌, ◌∙◌, length, OnOk, sym, ap, subst, arith}
 use Rattle.std.specs.Arc.{arc_value}
 use Rattle.table_file.specs.Form.{blocks_of}
-use Rattle.table_cursor.specs.Agreeing.{ShowsOf, IsDamageOf}
+use Rattle.table_cursor.specs.Agreeing.{ShowsOf, IsDamageAt}
 use Rattle.peb_base.specs.Cursors.{IfDamage}
 use Rattle.table_cursor.specs.Standing.{entries_before, OnPage}
 use Rattle.table_cursor.proofs.Blocks.{length-items}
@@ -25,4 +25,4 @@ returns-clause-leads g c = λ es holds told.
     let lt : c.args.index < length (arc_value c.args.self.now.table).items = omega (arith, c.if-index-blocks.false, c.blocks-2.ensures.count, ap (λ t. length t.items) c.deref.ensures) in
     turned g.P.File.TableHandle _ es holds told whole are c.one_block.ensures c.args.index c.turn.new.self c.turn.result lt
     (subst (λ t. OnOk c.turn.result (ShowsOf g.P.File.TableHandle t c.args.index c.turn.new.self)) c.deref-2.ensures c.turn.ensures.shows) c.turn.ensures.form c.turn.ensures.first c.turn.ensures.empty
-    (subst (λ t. IfDamage c.turn.result (IsDamageOf g.P.File.TableHandle t)) c.deref-2.ensures c.turn.ensures.damaged)
+    (subst (λ t. IfDamage c.turn.result (IsDamageAt g.P.File.TableHandle t c.args.index)) c.deref-2.ensures c.turn.ensures.damaged)

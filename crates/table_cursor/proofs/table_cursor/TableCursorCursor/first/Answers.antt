@@ -13,5 +13,5 @@ returns-clause-goes g c = λ es place stands.
     let new = c.show-moved.new.self in
     let blocks = blocks_of stands.holds.full es in
     stands_on g.P.File.TableHandle (arc_value cursor.table) (arc_value new.table) new.page new.index es stands.holds _ c.show-moved.result stands.told
-    (ap arc_value c.show-moved.ensures.table)
+    (ap arc_value c.show-moved.ensures.turns.table)
     (subst (λ p. LeadsTo (OnPage new.page new.index blocks es) p c.show-moved.result) (first_block blocks es stands.on.whole stands.holds.table.row_is.some) (c.show-moved.ensures.leads es stands.holds stands.told))

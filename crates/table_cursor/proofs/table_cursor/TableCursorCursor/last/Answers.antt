@@ -12,5 +12,5 @@ returns-clause-goes g c = λ es place stands.
     let new = c.go-moved.new.self in
     let blocks = blocks_of stands.holds.full es in
     stands_on g.P.File.TableHandle (arc_value cursor.table) (arc_value new.table) new.page new.index es stands.holds _ c.go-moved.result stands.told
-    (ap arc_value c.go-moved.ensures.table)
+    (ap arc_value c.go-moved.ensures.turns.table)
     (subst (λ p. LeadsTo (OnPage new.page new.index blocks es) p c.go-moved.result) (c.last_step-step.ensures.leads es stands.holds) (c.go-moved.ensures.leads es stands.holds place stands.on stands.told))
