@@ -1,10 +1,10 @@
 -- What contracts see of a cursor over a table.
-use Rattle.std.specs.Prelude.{◌≡◌, ◌↔◌, ℕ, List, [], Option, Result, Ok, Err, OnErr, length, slice_get}
+use Rattle.std.specs.Prelude.{◌≡◌, ◌↔◌, ℕ, List, [], Option, None, Result, Ok, Err, OnErr, length, slice_get}
 use Rattle.std.proofs.Common.{◌∙◌, sym, subst}
 use Rattle.std.specs.Arc.{arc_value}
 use Rattle.disk_model.specs.declared.port.Port.{Ghosts}
 use Rattle.disk_model.specs.declared.table_handle.TableHandle as handles
-use Rattle.peb_base.specs.Cursors.{IfDamage}
+use Rattle.peb_base.specs.Cursors.{CountsFaults, IfDamage, refusal}
 use Rattle.peb_base.specs.declared.entry.Entry.{Entry}
 use Rattle.peb_base.specs.declared.read_fault.ReadFault.{ReadFault}
 use Rattle.peb_base.specs.declared.read_fault.ReadFault.TheVariants.{Fault, Damaged}
@@ -112,3 +112,15 @@ module _ {P F : Type 0} {p : Ghosts P F} {f : handles.Ghosts F} where
   pub keeps_damage : (a b : TableCursor P F p f) (number at : ℕ) → Keeps a b → DamageIn a number at ↔ DamageIn b number at
   keeps_damage a b number at x =
       (subst (λ t. IsDamageOf f (arc_value t) number at) (sym x.table), subst (λ t. IsDamageOf f (arc_value t) number at) x.table)
+
+-- what every move leaves: a refusal shows nothing, is kept, has its cause, and tells damage only of
+-- the block at this index, to which the move goes; one read is made at most, and what it keeps stays
+pub record Moves {P F : Type 0} {p : Ghosts P F} {f : handles.Ghosts F} (old new : TableCursor P F p f)
+    (index : ℕ) (result : Result (Unit {0}) ReadFault) : Type 0 where
+  pub nothing : OnErr result (shown_by new ≡ None)
+  pub refused : refused_of new ≡ refusal result
+  pub counts : CountsFaults (p.faults (port_of old)) (p.faults (port_of new)) result
+  pub damage : IfDamage result (DamageAt new index)
+  pub sure : p.steady (port_of old) → result ≡ Err Fault → ⊥
+  pub port : ReadsAtMost p 1 (port_of old) (port_of new) (result ≡ Err Fault)
+  pub keeps : Keeps old new

@@ -255,7 +255,7 @@ impl<P: Port> Cursor for TableCursor<P> {
     ghost use Rattle.table_file.specs.Items.{index_for};
     ghost use Rattle.table_cursor.specs.Spots.{first_spot, last_spot, next_spot, previous_spot, found_spot};
     ghost use Rattle.table_cursor.specs.StandingLaws.{stands_among};
-    ghost use Rattle.table_cursor.specs.Views.{table_of, port_of, page_of, index_of, refused_of, blocks_in, shown_by, spot_of, ahead_of, back_of, size_of, StandsIn, WalksIn, DamageIn, DamageAt, IsOfTable, Keeps, keeps_self, keeps_on, keeps_damage};
+    ghost use Rattle.table_cursor.specs.Views.{table_of, port_of, page_of, index_of, refused_of, blocks_in, shown_by, spot_of, ahead_of, back_of, size_of, StandsIn, WalksIn, DamageIn, DamageAt, IsOfTable, Keeps, Moves, keeps_self, keeps_on, keeps_damage};
     ghost use Rattle.table_cursor.specs.Walking.{most_steps};
     ghost use Rattle.table_cursor.specs.WalkLaws.{entry_within, walk_ascends, steps_bounded};
 
@@ -306,16 +306,7 @@ impl<P: Port> Cursor for TableCursor<P> {
         ensures behind { (e : Entry) → shown_by self.new ≡ Some e → comes_before e.key e.number key.now number ≡ false }
         ensures lands { OnOk result (spot_of self.new ≡ found_spot (table_of self.old).items key.now number (page_of self.new)) }
         // what it leaves
-        ensures nothing { OnErr result (shown_by self.new ≡ None) }
-        ensures refused { refused_of self.new ≡ refusal result }
-        // when it fails
-        ensures counts { CountsFaults (P.faults (port_of self.old)) (P.faults (port_of self.new)) result }
-        ensures damaged { IfDamage result (DamageAt self.new (index_for key.now number (table_of self.old).items)) }
-        ensures damage { IfDamage result (DamageIn self.new) }
-        ensures sure { P.steady (port_of self.old) → result ≡ Err faults.Fault → ⊥ }
-        // what stays
-        ensures port { ReadsAtMost P.Port 1 (port_of self.old) (port_of self.new) (result ≡ Err faults.Fault) }
-        ensures keeps { Keeps self.old self.new }
+        ensures moves { Moves self.old self.new (index_for key.now number (table_of self.old).items) result }
     {
         let moved = self.go_to(key, number);
         self.refused = moved.err();
@@ -330,16 +321,7 @@ impl<P: Port> Cursor for TableCursor<P> {
         ensures lands { OnOk result (spot_of self.new ≡ first_spot (table_of self.old).items 0) }
         ensures walks { OnOk result (WalksIn self.new []) }
         // what it leaves
-        ensures nothing { OnErr result (shown_by self.new ≡ None) }
-        ensures refused { refused_of self.new ≡ refusal result }
-        // when it fails
-        ensures counts { CountsFaults (P.faults (port_of self.old)) (P.faults (port_of self.new)) result }
-        ensures damaged { IfDamage result (DamageAt self.new (0)) }
-        ensures damage { IfDamage result (DamageIn self.new) }
-        ensures sure { P.steady (port_of self.old) → result ≡ Err faults.Fault → ⊥ }
-        // what stays
-        ensures port { ReadsAtMost P.Port 1 (port_of self.old) (port_of self.new) (result ≡ Err faults.Fault) }
-        ensures keeps { Keeps self.old self.new }
+        ensures moves { Moves self.old self.new 0 result }
     {
         let moved = self.show(0);
         self.refused = moved.err();
@@ -353,16 +335,7 @@ impl<P: Port> Cursor for TableCursor<P> {
             → LeadsTo (StandsIn self.new es) (last_place es) result }
         ensures lands { OnOk result (spot_of self.new ≡ last_spot (table_of self.old).items (blocks_in self.old - 1) (page_of self.new)) }
         // what it leaves
-        ensures nothing { OnErr result (shown_by self.new ≡ None) }
-        ensures refused { refused_of self.new ≡ refusal result }
-        // when it fails
-        ensures counts { CountsFaults (P.faults (port_of self.old)) (P.faults (port_of self.new)) result }
-        ensures damaged { IfDamage result (DamageAt self.new (blocks_in self.old - 1)) }
-        ensures damage { IfDamage result (DamageIn self.new) }
-        ensures sure { P.steady (port_of self.old) → result ≡ Err faults.Fault → ⊥ }
-        // what stays
-        ensures port { ReadsAtMost P.Port 1 (port_of self.old) (port_of self.new) (result ≡ Err faults.Fault) }
-        ensures keeps { Keeps self.old self.new }
+        ensures moves { Moves self.old self.new (blocks_in self.old - 1) result }
     {
         let step = self.last_step();
         let moved = self.go(step);
@@ -387,17 +360,8 @@ impl<P: Port> Cursor for TableCursor<P> {
         ensures stays { shown_by self.old ≡ None
             → IsOk result × (shown_by self.new ≡ None) }
         // what it leaves
-        ensures nothing { OnErr result (shown_by self.new ≡ None) }
-        ensures refused { refused_of self.new ≡ refusal result }
-        // when it fails
-        ensures counts { CountsFaults (P.faults (port_of self.old)) (P.faults (port_of self.new)) result }
-        ensures damaged { IfDamage result (DamageAt self.new (index_of self.old + 1)) }
-        ensures damage { IfDamage result (DamageIn self.new) }
         ensures unread { shown_by self.old ≡ None → port_of self.new ≡ port_of self.old }
-        ensures sure { P.steady (port_of self.old) → result ≡ Err faults.Fault → ⊥ }
-        // what stays
-        ensures port { ReadsAtMost P.Port 1 (port_of self.old) (port_of self.new) (result ≡ Err faults.Fault) }
-        ensures keeps { Keeps self.old self.new }
+        ensures moves { Moves self.old self.new (index_of self.old + 1) result }
     {
         let step = self.next_step();
         let moved = self.go(step);
@@ -420,17 +384,8 @@ impl<P: Port> Cursor for TableCursor<P> {
         ensures stays { shown_by self.old ≡ None
             → IsOk result × (shown_by self.new ≡ None) }
         // what it leaves
-        ensures nothing { OnErr result (shown_by self.new ≡ None) }
-        ensures refused { refused_of self.new ≡ refusal result }
-        // when it fails
-        ensures counts { CountsFaults (P.faults (port_of self.old)) (P.faults (port_of self.new)) result }
-        ensures damaged { IfDamage result (DamageAt self.new (index_of self.old - 1)) }
-        ensures damage { IfDamage result (DamageIn self.new) }
         ensures unread { shown_by self.old ≡ None → port_of self.new ≡ port_of self.old }
-        ensures sure { P.steady (port_of self.old) → result ≡ Err faults.Fault → ⊥ }
-        // what stays
-        ensures port { ReadsAtMost P.Port 1 (port_of self.old) (port_of self.new) (result ≡ Err faults.Fault) }
-        ensures keeps { Keeps self.old self.new }
+        ensures moves { Moves self.old self.new (index_of self.old - 1) result }
     {
         let step = self.previous_step();
         let moved = self.go(step);
