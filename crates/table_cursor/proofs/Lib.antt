@@ -9,5 +9,6 @@ pub mod Newest
 pub mod Pages
 pub mod Seeking
 pub mod Standings
+pub mod Tripping
 pub mod WalkEnds
 pub mod Walked

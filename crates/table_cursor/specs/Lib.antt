@@ -8,6 +8,7 @@ pub mod Spots
 pub mod Standing
 pub mod StandingLaws
 pub mod Steps
+pub mod Trips
 pub mod Views
 pub mod Walking
 pub mod WalkLaws

@@ -11,6 +11,8 @@ mod looking;
 mod page;
 mod step;
 mod table_cursor;
+mod trip_fault;
+mod trips;
 #[cfg(test)]
 mod tests;
 

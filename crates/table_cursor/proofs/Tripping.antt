@@ -1,0 +1,129 @@
+-- Walks from the first entry to the end.
+use Rattle.std.proofs.Common.{◌≡◌, ℕ, zero, suc, ◌<◌, ◌≤◌, ◌∙◌, ◌+◌, ◌⊎◌, inl, inr, List, [], ◌∷◌, ◌++◌, length, take, drop, get_or, append_assoc, subst, Option, Some, None, Result, Ok, Err, Bool, true, false, refl, sym, ap, arith}
+use Rattle.std.specs.Prelude.{slice_get, nat_lt, if◌then◌else◌}
+use Rattle.std.proofs.lemmas.Bool.Decides.{nat_tests}
+use Rattle.std.proofs.Math.Seq.{split_at}
+use Rattle.disk_model.specs.declared.table_handle.TableHandle.{Ghosts}
+use Rattle.peb_base.specs.Cursors.{LeadsTo, IfDamage, OnFault, StandsAmong}
+use Rattle.peb_base.specs.Entries.{AreSorted}
+use Rattle.peb_base.specs.Faults.{Rose}
+use Rattle.peb_base.specs.declared.entry.Entry.{Entry}
+use Rattle.peb_base.specs.Tables.{IsRowOf}
+use Rattle.peb_base.specs.declared.limit_kind.LimitKind.TheVariants as kinds
+use Rattle.peb_base.specs.declared.table_row.TableRow.{TableRow}
+use Rattle.peb_base.specs.declared.read_fault.ReadFault.{ReadFault}
+use Rattle.peb_base.specs.declared.read_fault.ReadFault.TheVariants as reads
+use Rattle.table_file.specs.Ascending.{front_ascends}
+use Rattle.table_file.specs.Damages.{IsDamage}
+use Rattle.table_file.specs.Form.{blocks_of, table_bytes}
+use Rattle.table_file.specs.Holding.{IsOpenedOver}
+use Rattle.table_file.specs.Limits.{index_fault, push_fault, blocks_fault, IsRefused}
+use Rattle.table_file.specs.Opening.{OpensAs}
+use Rattle.table_file.specs.Tables.{TableParts}
+use Rattle.table_file.specs.declared.put_fault.PutFault.{PutFault}
+use Rattle.table_file.specs.declared.put_fault.PutFault.TheVariants as puts
+use Rattle.table_file.specs.declared.table_fault.TableFault.{TableFault}
+use Rattle.table_file.specs.declared.table_fault.TableFault.TheVariants as tables
+use Rattle.table_cursor.specs.Agreeing.{IsDamageAt}
+use Rattle.table_cursor.specs.Trips.{of_read, of_table, TellsDamage, TellsTable, LimitsPut, IsRowWritten}
+use Rattle.table_cursor.specs.declared.trip_fault.TripFault.TheVariants.{Fault}
+
+-- where a cursor stands, no refused move tells damage
+pub undamaged : (StandsAt : Option ℕ → Type 0) (place : Option ℕ) (why : ReadFault)
+    → LeadsTo StandsAt place (Err why) → TellsDamage (of_read why) → ⊥
+undamaged StandsAt place reads.Fault leads tells = tells
+undamaged StandsAt place (reads.Damaged number at) leads tells = leads
+
+-- damage of a block is told of its table
+pub of_table_told : {F : Type 0} (g : Ghosts F) (t : TableParts F) (index : ℕ) (why : ReadFault)
+    → IfDamage {T = Unit {0}} (Err why) (IsDamageAt g t index) → TellsTable t.row.number (of_read why)
+of_table_told g t index reads.Fault damage = tt
+of_table_told g t index (reads.Damaged number at) damage = damage.number_is
+
+-- a fault has its cause since any earlier moment
+pub rose_since : (a b c : ℕ) (why : ReadFault) → a ≤ b → OnFault (Err why) (Rose b c) → of_read why ≡ Fault → Rose a c
+rose_since a b c reads.Fault le rose is = omega (arith, le, rose)
+rose_since a b c (reads.Damaged number at) le rose is = cc
+
+none_past : (es : List Entry) (n : ℕ) → n < length es → None ≡ slice_get es n → ⊥
+none_past [] n lt none = omega (arith, lt)
+none_past (e ∷ es) zero lt none = cc
+none_past (e ∷ es) (suc n) lt none = none_past es n (omega (arith, lt)) none
+
+-- a cursor that shows nothing stands at no place
+pub nowhere : (es : List Entry) (place : Option ℕ) (shown : Option Entry) → StandsAmong es place shown → shown ≡ None → place ≡ None
+nowhere es None shown among none = refl
+nowhere es (Some n) shown among none = absurd (none_past es n among.inside (sym none ∙ among.shows))
+
+-- ---- entries that are pushed one after another
+
+-- an entry at a place, with those in front of it and those behind it
+pub record AtEach (es : List Entry) (n : ℕ) (e : Entry) : Type 0 where
+  pub split : es ≡ take n es ++ e ∷ drop (suc n) es
+  pub on : take (n + 1) es ≡ take n es ++ e ∷ []
+  pub sorted : AreSorted es → AreSorted (take n es ++ e ∷ [])
+
+take_suc : (es : List Entry) (n : ℕ) (e : Entry) → n < length es → e ≡ get_or es n e → take (suc n) es ≡ take n es ++ e ∷ []
+take_suc [] n e lt is = absurd (omega (arith, lt))
+take_suc (x ∷ es) zero e lt is = ap (λ (y : Entry). y ∷ []) (sym is)
+take_suc (x ∷ es) (suc n) e lt is = ap (λ l. x ∷ l) (take_suc es n e (omega (arith, lt)) is)
+
+pub at_each : (es : List Entry) (n : ℕ) (e : Entry) → n < length es → e ≡ get_or es n e → AtEach es n e
+at_each es n e lt is =
+    let one : n + 1 ≡ suc n = omega arith in
+    let apart : es ≡ take n es ++ e ∷ drop (suc n) es = split_at es n e lt ∙ ap (λ y. take n es ++ y ∷ drop (suc n) es) (sym is) in
+    record {
+      split = apart;
+      on = ap (λ k. take k es) one ∙ take_suc es n e lt is;
+      sorted = λ each.
+          front_ascends [] 0 (take n es ++ e ∷ []) (drop (suc n) es)
+          (subst AreSorted (apart ∙ sym (append_assoc (take n es) (e ∷ []) (drop (suc n) es))) each);
+    }
+
+pub limits_push : (full : ℕ) (es : List Entry) (n : ℕ) (e : Entry) (why : PutFault) → AtEach es n e
+    → IsRefused {T = Unit {0}} (push_fault full (take n es) e) (Err why) → LimitsPut full es why
+limits_push full es n e puts.Fault at refused = tt
+limits_push full es n e (puts.Limit kind most) at refused = inl (take n es, e, drop (suc n) es, at.split, refused)
+limits_push full es n e puts.Memory at refused = tt
+
+pub limits_end : {T : Type 0} (made : Result T PutFault) (full : ℕ) (es : List Entry) (why : PutFault) → made ≡ Err why
+    → IsRefused (blocks_fault (blocks_of full es)) made → LimitsPut full es why
+limits_end {T} made full es why is refused = by why (subst (IsRefused (blocks_fault (blocks_of full es))) is refused)
+  where
+    by : (why : PutFault) → IsRefused (blocks_fault (blocks_of full es)) (let r : Result T PutFault = Err why in r) → LimitsPut full es why
+    by puts.Fault refused = tt
+    by (puts.Limit kind most) refused = inr refused
+    by puts.Memory refused = tt
+
+-- ---- a table that is opened again
+
+-- a table that is opened by the row of entries, over their bytes
+pub opened_over : {F : Type 0} (g : Ghosts F) (t : TableParts F) (row : TableRow) (full : ℕ) (es : List Entry) → IsRowWritten row full es
+    → t.row ≡ row → g.number t.file ≡ row.number → g.bytes t.file ≡ table_bytes full row.number es
+    → OpensAs row t.items t.filter (g.bytes t.file) → IsOpenedOver g t full es
+opened_over g t row full es w same number bytes opens = record {
+  least = w.least;
+  most = w.most;
+  sorted = w.sorted;
+  row_is = subst (λ (r : TableRow). IsRowOf r es) (sym same) w.row_is;
+  row_size = omega (arith, ap (λ (r : TableRow). r.bytes) same, w.row_size);
+  row_bytes = ap (λ (r : TableRow). r.bytes) same ∙ w.row_bytes ∙ ap (λ (r : TableRow). length (table_bytes full r.number es)) (sym same);
+  file_number = number ∙ ap (λ (r : TableRow). r.number) (sym same);
+  file_bytes = bytes ∙ ap (λ (r : TableRow). table_bytes full r.number es) (sym same);
+  opens = subst (λ (r : TableRow). OpensAs r t.items t.filter (g.bytes t.file)) (sym same) opens;
+}
+
+pub same_bytes : (a b : List ℕ) → Some a ≡ Some b → a ≡ b
+same_bytes a b same = cc
+
+pub damage_opening : (why : TableFault) → TellsDamage (of_table why) → IsDamage why
+damage_opening tables.Fault tells = tells
+damage_opening (tables.Damaged number at) tells = tt
+damage_opening tables.Memory tells = tells
+
+pub short_index : (n : ℕ) → index_fault n ≡ None → n ≤ 2147483648
+short_index n none = by (nat_lt 2147483648 n) refl none
+  where
+    by : (b : Bool) → nat_lt 2147483648 n ≡ b → (if b then Some (puts.Limit kinds.Index 2147483648) else None) ≡ None → n ≤ 2147483648
+    by true is none = cc
+    by false is none = grind (arith, nat_tests, is)

@@ -1,0 +1,29 @@
+use Rattle.std.proofs.Common.{◌≡◌, ◌∙◌, Some, refl, sym, ap, subst}
+use Rattle.peb_base.specs.declared.entry.Entry.{Entry}
+use Rattle.table_file.specs.Form.{table_bytes, blocks_of, items_from, index_bytes}
+use Rattle.table_cursor.specs.Trips.{TellsDamage}
+use Rattle.table_cursor.proofs.Tripping.{opened_over, damage_opening, short_index, same_bytes}
+use Rattle.table_cursor.proofs.trips.walk_row.Goals as goal
+
+pub returns-in-Err-clause-undamaged : goal.returns-in-Err-clause-undamaged
+returns-in-Err-clause-undamaged g c = λ full es told w there tells.
+    let row = c.args.row in
+    let damage = damage_opening c.in-Err.why (subst TellsDamage c.from.ensures tells) in
+    let none = c.in-Err.ensures.damaged damage told (table_bytes full row.number es) there in
+    none _ _ (c.written_opens.ensures row full row.number es w.least w.most w.sorted w.row_is.some w.few (short_index _ w.short) refl w.row_is.entries w.row_bytes)
+
+pub returns-clause-told : goal.returns-clause-told
+returns-clause-told g c = λ full es told w found.
+    let table = c.in-Ok.table in
+    let opened = c.in-Ok.ensures in
+    let bytes = found (g.P.File.TableHandle.bytes table.file) (opened.found told) in
+    c.walk_table.ensures.told es told
+    (c.law_holds.ensures.opened table full es (opened_over g.P.File.TableHandle table c.args.row full es w opened.row opened.number bytes (opened.opened told)))
+
+pub returns-clause-undamaged : goal.returns-clause-undamaged
+returns-clause-undamaged g c = λ full es told w there.
+    let table = c.in-Ok.table in
+    let opened = c.in-Ok.ensures in
+    let bytes = same_bytes _ _ (sym (opened.found told) ∙ there) in
+    c.walk_table.ensures.undamaged es told
+    (c.law_holds.ensures.opened table full es (opened_over g.P.File.TableHandle table c.args.row full es w opened.row opened.number bytes (opened.opened told)))

@@ -1,0 +1,13 @@
+use Rattle.std.proofs.Common.{None, sym, subst}
+use Rattle.table_file.specs.Tables.{Holds}
+use Rattle.table_cursor.proofs.trips.walk_table.Goals as goal
+
+pub returns-clause-told : goal.returns-clause-told
+returns-clause-told g c = λ es told holds.
+    c.walk-seen.ensures.told es None
+    (c.open-cursor.ensures.stands es told (subst (λ t. Holds g.P.File.TableHandle t es) (sym c.in-Ok.ensures.ok) holds))
+
+pub returns-clause-undamaged : goal.returns-clause-undamaged
+returns-clause-undamaged g c = λ es told holds.
+    c.walk-seen.ensures.undamaged es None
+    (c.open-cursor.ensures.stands es told (subst (λ t. Holds g.P.File.TableHandle t es) (sym c.in-Ok.ensures.ok) holds))

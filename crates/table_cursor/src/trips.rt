@@ -1,0 +1,206 @@
+//! Tables that are written, opened and walked.
+
+ghost use Rattle.std.specs.Prelude.{◌≡◌, ◌≤◌, ◌<◌, ◌∷◌, ◌++◌, [], ℕ, List, Option, Some, None, Err, IfOk, IfErr, OnOk, OnErr, IsTrue, length};
+ghost use Rattle.disk_model.specs.Tables.{with_table};
+ghost use Rattle.peb_base.specs.Entries.{AreSorted};
+ghost use Rattle.peb_base.specs.EntryRefs.{entry_of};
+ghost use Rattle.peb_base.specs.Faults.{Rose};
+ghost use Rattle.peb_base.specs.declared.entry.Entry.{Entry};
+ghost use Rattle.table_file.specs.Form.{blocks_of, table_bytes};
+ghost use Rattle.table_file.specs.Limits.{blocks_fault};
+ghost use Rattle.table_file.specs.Tables.{IsTableOf, IsRowAt, Holds};
+ghost use Rattle.table_file.specs.Writing.{block_length};
+ghost use Rattle.table_file.specs.declared.put_fault.PutFault.TheVariants as puts;
+ghost use Rattle.table_cursor.specs.Trips.{TellsDamage, TellsTable, LimitsPut, IsRowWritten};
+ghost use Rattle.table_cursor.specs.Views.{table_of, port_of, StandsIn, Keeps};
+ghost use Rattle.table_cursor.specs.Walking.{SpansRow};
+ghost use Rattle.table_cursor.specs.declared.trip_fault.TripFault.TheVariants.{Fault};
+
+use crate::laws::{law_walk_ends, law_walk_told};
+use crate::table_cursor::TableCursor;
+use crate::trip_fault::TripFault;
+use block_pool::Pool;
+use disk_model::{Maker, Port};
+use peb_base::{Change, ChangeRef, Cursor, Entry, EntryRef, Key, List, Memory, TableRow, Value};
+use std::alloc::Global;
+use std::sync::Arc;
+use table_file::{PutFault, Table, TableWriter, law_holds, written_opens};
+
+/// Lends an entry.
+fn lent(entry: &Entry) -> EntryRef<'_>
+    ensures { entry_of result ≡ entry.now }
+{
+    let change = match &entry.change {
+        Change::Put(value) => ChangeRef::Put(value.bytes()),
+        Change::Delete => ChangeRef::Delete,
+    };
+    EntryRef::new(entry.key.bytes(), entry.number, change)
+}
+
+/// Writes the table of these entries, and seals it.
+fn write<M: Maker>(
+    writer: &mut TableWriter,
+    maker: &mut M,
+    number: u64,
+    level: u8,
+    entries: &[Entry],
+) -> Result<Table<M::File>, PutFault>
+    requires sorted { AreSorted entries.now }
+    requires some { 0 < length entries.now }
+    // what it gives
+    ensures table { IfOk result (λ table. IsTableOf M.File.TableHandle table
+        (blocks_of (block_length writer.old) entries.now) entries.now) }
+    ensures row { IfOk result (λ table. IsRowAt table.row number level 0) }
+    ensures few { OnOk result (length entries.now ≤ 1717986918) }
+    ensures short { OnOk result
+        (blocks_fault (blocks_of (block_length writer.old) entries.now) ≡ None) }
+    // what it leaves
+    ensures sealed { IfOk result (λ table. IsTrue M.File.tells → M.sealed maker.new
+        ≡ with_table number (M.File.bytes table.file) (M.sealed maker.old)) }
+    ensures unsealed { OnErr result (M.sealed maker.new ≡ M.sealed maker.old) }
+    // when it fails
+    ensures limit { IfErr result (LimitsPut (block_length writer.old) entries.now) }
+    ensures later { M.faults maker.old ≤ M.faults maker.new }
+    ensures cause { result ≡ Err puts.Fault → Rose (M.faults maker.old) (M.faults maker.new) }
+    // what stays
+    ensures gone { M.gone maker.new ≡ M.gone maker.old }
+{
+    match writer.start(maker, number, level) {
+        Ok(()) => {}
+        Err(why) => return Err(why),
+    }
+    'each: for entry in entries {
+        match writer.push(maker, lent(entry)) {
+            Ok(()) => {}
+            Err(why) => return Err(why),
+        }
+    }
+    match writer.finish(maker) {
+        Ok(table) => Ok(table),
+        Err(why) => Err(why),
+    }
+}
+
+/// A copy of a lent entry.
+fn copied(alloc: Global, entry: &EntryRef<'_>) -> Result<Entry, Memory>
+    ensures { IfOk result (λ copy. copy ≡ entry_of entry.now) }
+{
+    let key = Key::new(alloc, entry.key).map_err(|_| Memory)?;
+    let change = match entry.change {
+        ChangeRef::Put(value) => Change::Put(Value::new(alloc, value).map_err(|_| Memory)?),
+        ChangeRef::Delete => Change::Delete,
+    };
+    Ok(Entry {
+        key,
+        number: entry.number(),
+        change,
+    })
+}
+
+/// Puts a copy of a lent entry behind others.
+fn keep(alloc: Global, entry: &EntryRef<'_>, seen: &mut Vec<Entry>) -> Result<(), Memory>
+    ensures { OnOk result (seen.new.items ≡ seen.old.items ++ entry_of entry.now ∷ []) }
+{
+    let copy = copied(alloc, entry)?;
+    match seen.push(copy) {
+        Ok(()) => Ok(()),
+        Err(_) => Err(Memory),
+    }
+}
+
+/// Goes from the first entry to the end, and gives copies of all that was shown, in their order.
+fn walk<P: Port>(alloc: Global, cursor: &mut TableCursor<P>) -> Result<List<Entry>, TripFault>
+    // what it gives
+    ensures told { (es : List Entry) (place : Option ℕ) → StandsIn cursor.old es place →
+        IfOk result (λ seen. seen ≡ es) }
+    ensures spans { IfOk result (λ seen. SpansRow (table_of cursor.new).row seen) }
+    // when it fails
+    ensures undamaged { (es : List Entry) (place : Option ℕ) → StandsIn cursor.old es place →
+        IfErr result (λ why. TellsDamage why → ⊥) }
+    ensures damaged { IfErr result (TellsTable (table_of cursor.old).row.number) }
+    ensures later { P.faults (port_of cursor.old) ≤ P.faults (port_of cursor.new) }
+    ensures cause { result ≡ Err Fault →
+        Rose (P.faults (port_of cursor.old)) (P.faults (port_of cursor.new)) }
+    // what stays
+    ensures keeps { Keeps cursor.old cursor.new }
+{
+    let mut seen = Vec::new(alloc);
+    match cursor.first() {
+        Ok(()) => {}
+        Err(why) => return Err(TripFault::from(why)),
+    }
+    'walk: while let Some(entry) = cursor.at() {
+        keep(alloc, &entry, &mut seen)?;
+        match cursor.next() {
+            Ok(()) => {}
+            Err(why) => return Err(TripFault::from(why)),
+        }
+    }
+    law_walk_told(cursor);
+    law_walk_ends(cursor);
+    Ok(List::of(seen))
+}
+
+/// Walks a table through a port, which it gives back.
+fn walk_table<P: Port>(
+    alloc: Global,
+    port: P,
+    table: Table<P::File>,
+) -> (P, Result<List<Entry>, TripFault>)
+    // what it gives
+    ensures told { (es : List Entry) → IsTrue P.File.tells → Holds P.File.TableHandle table es →
+        IfOk result.1 (λ seen. seen ≡ es) }
+    ensures spans { IfOk result.1 (λ seen. SpansRow table.row seen) }
+    // when it fails
+    ensures undamaged { (es : List Entry) → IsTrue P.File.tells → Holds P.File.TableHandle table es →
+        IfErr result.1 (λ why. TellsDamage why → ⊥) }
+    ensures damaged { IfErr result.1 (TellsTable table.row.number) }
+    ensures later { P.faults port ≤ P.faults result.0 }
+    ensures cause { result.1 ≡ Err Fault → Rose (P.faults port) (P.faults result.0) }
+{
+    let table = match Arc::new(alloc, table) {
+        Ok(table) => table,
+        Err(_) => return (port, Err(TripFault::Memory)),
+    };
+    let mut pool = match Pool::new(alloc, 1) {
+        Ok(pool) => pool,
+        Err(_) => return (port, Err(TripFault::Memory)),
+    };
+    let Some(loan) = pool.lend() else {
+        unreachable!();
+    };
+    let mut cursor = TableCursor::open(table, port, loan);
+    let seen = walk(alloc, &mut cursor);
+    let (_, port, loan) = cursor.close();
+    pool.give_back(loan);
+    (port, seen)
+}
+
+/// Opens the table of a row through a port, which it gives back, and walks it.
+fn walk_row<P: Port>(
+    alloc: Global,
+    port: P,
+    row: TableRow,
+) -> (P, Result<List<Entry>, TripFault>)
+    // what it gives
+    ensures told { (full : ℕ) (es : List Entry) → IsTrue P.File.tells → IsRowWritten row full es →
+        ((bytes : List ℕ) → (P.table_files port).sealed row.number ≡ Some bytes →
+        bytes ≡ table_bytes full row.number es) → IfOk result.1 (λ seen. seen ≡ es) }
+    ensures spans { IfOk result.1 (λ seen. SpansRow row seen) }
+    // when it fails
+    ensures undamaged { (full : ℕ) (es : List Entry) → IsTrue P.File.tells → IsRowWritten row full es →
+        (P.table_files port).sealed row.number ≡ Some (table_bytes full row.number es) →
+        IfErr result.1 (λ why. TellsDamage why → ⊥) }
+    ensures damaged { IfErr result.1 (TellsTable row.number) }
+    ensures later { P.faults port ≤ P.faults result.0 }
+    ensures cause { result.1 ≡ Err Fault → Rose (P.faults port) (P.faults result.0) }
+{
+    law_holds::<P::File>();
+    written_opens();
+    let mut port = port;
+    let table = match Table::open(alloc, &mut port, row) {
+        Ok(table) => table,
+        Err(why) => return (port, Err(TripFault::from(why))),
+    };
+    walk_table(alloc, port, table)
+}
