@@ -1,5 +1,5 @@
 -- Walks from the first entry to the end.
-use Rattle.std.proofs.Common.{◌≡◌, ℕ, zero, suc, ◌<◌, ◌≤◌, ◌∙◌, ◌+◌, ◌⊎◌, inl, inr, List, [], ◌∷◌, ◌++◌, length, take, drop, get_or, append_assoc, subst, Option, Some, None, Result, Ok, Err, Bool, true, false, refl, sym, ap, arith}
+use Rattle.std.proofs.Common.{◌≡◌, ℕ, zero, suc, ◌<◌, ◌≤◌, ◌∙◌, ◌+◌, inl, inr, List, [], ◌∷◌, ◌++◌, length, take, drop, get_or, append_assoc, subst, Option, Some, None, Result, Err, Bool, true, false, refl, sym, ap, arith}
 use Rattle.std.specs.Prelude.{slice_get, nat_lt, if◌then◌else◌}
 use Rattle.std.proofs.lemmas.Bool.Decides.{nat_tests}
 use Rattle.std.proofs.Math.Seq.{split_at}
@@ -25,7 +25,7 @@ use Rattle.table_file.specs.declared.put_fault.PutFault.TheVariants as puts
 use Rattle.table_file.specs.declared.table_fault.TableFault.{TableFault}
 use Rattle.table_file.specs.declared.table_fault.TableFault.TheVariants as tables
 use Rattle.table_cursor.specs.Agreeing.{IsDamageAt}
-use Rattle.table_cursor.specs.Trips.{of_read, of_table, TellsDamage, TellsTable, LimitsPut, IsRowWritten}
+use Rattle.table_cursor.specs.Trips.{of_read, of_table, TellsDamage, TellsTable, LimitsPut, LimitsTrip, IsRowWritten}
 use Rattle.table_cursor.specs.declared.trip_fault.TripFault.TheVariants.{Fault}
 
 -- where a cursor stands, no refused move tells damage
@@ -127,3 +127,13 @@ short_index n none = by (nat_lt 2147483648 n) refl none
     by : (b : Bool) → nat_lt 2147483648 n ≡ b → (if b then Some (puts.Limit kinds.Index 2147483648) else None) ≡ None → n ≤ 2147483648
     by true is none = cc
     by false is none = grind (arith, nat_tests, is)
+
+-- neither a read nor an opening tells a limit
+pub read_unlimited : (full : ℕ) (es : List Entry) (why : ReadFault) → LimitsTrip full es (of_read why)
+read_unlimited full es reads.Fault = tt
+read_unlimited full es (reads.Damaged number at) = tt
+
+pub opening_unlimited : (full : ℕ) (es : List Entry) (why : TableFault) → LimitsTrip full es (of_table why)
+opening_unlimited full es tables.Fault = tt
+opening_unlimited full es (tables.Damaged number at) = tt
+opening_unlimited full es tables.Memory = tt

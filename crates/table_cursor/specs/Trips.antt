@@ -1,9 +1,10 @@
 -- Tables that are written and walked.
 use Rattle.std.specs.Prelude.{◌≡◌, ◌⊎◌, ◌≤◌, ◌<◌, ℕ, List, ◌∷◌, ◌++◌, length, Some, None, ◌^◌}
+use Rattle.disk_model.specs.Told.{TellsTheSame}
+use Rattle.disk_model.specs.declared.devices.Devices.{Ghosts}
 use Rattle.peb_base.specs.Entries.{AreSorted}
 use Rattle.peb_base.specs.Tables.{IsRowOf, first_key, last_key, least_number, greatest_number}
 use Rattle.peb_base.specs.declared.entry.Entry.{Entry}
-use Rattle.peb_base.specs.declared.limit_kind.LimitKind.{LimitKind}
 use Rattle.peb_base.specs.declared.read_fault.ReadFault.{ReadFault}
 use Rattle.peb_base.specs.declared.read_fault.ReadFault.TheVariants as reads
 use Rattle.peb_base.specs.declared.table_row.TableRow.{TableRow}
@@ -87,3 +88,10 @@ pub record IsRowWritten (row : TableRow) (full : ℕ) (es : List Entry) : Type 0
   pub row_is : IsRowOf row es
   pub row_size : row.bytes < 2 ^ 64
   pub row_bytes : row.bytes ≡ length (table_bytes full row.number es)
+
+-- nothing but the files of tables changed: what is told of the journal and the directories, and their
+-- count of faults
+pub record ChangesTables {D J P M F : Type 0} (g : Ghosts D J P M F) (old new : D) : Type 0 where
+  pub journal : TellsTheSame (g.journal_told old) (g.journal_told new)
+  pub directories : g.directories new ≡ g.directories old
+  pub faults : g.faults new ≡ g.faults old

@@ -11,11 +11,13 @@ mod looking;
 mod page;
 mod step;
 mod table_cursor;
-mod trip_fault;
-mod trips;
 #[cfg(test)]
 mod tests;
+mod trip_fault;
+mod trips;
 
 pub use laws::{law_walk_ascends, law_walk_ends, law_walk_told};
 pub use looking::{look_in, look_up};
 pub use table_cursor::TableCursor;
+pub use trip_fault::TripFault;
+pub use trips::round_trip;

@@ -1,7 +1,7 @@
 //! Tables that are written, opened and walked.
 
-ghost use Rattle.std.specs.Prelude.{◌≡◌, ◌≤◌, ◌<◌, ◌∷◌, ◌++◌, [], ℕ, List, Option, Some, None, Err, IfOk, IfErr, OnOk, OnErr, IsTrue, length};
-ghost use Rattle.disk_model.specs.Tables.{with_table};
+ghost use Rattle.std.specs.Prelude.{◌≡◌, ◌≤◌, ◌<◌, ◌^◌, ◌-◌, ◌∷◌, ◌++◌, [], ℕ, false, min, List, Option, Some, None, Err, IfOk, IfErr, OnOk, OnErr, IsTrue, length};
+ghost use Rattle.disk_model.specs.Tables.{with_table, is_gone, StaysOrGoes};
 ghost use Rattle.peb_base.specs.Entries.{AreSorted};
 ghost use Rattle.peb_base.specs.EntryRefs.{entry_of};
 ghost use Rattle.peb_base.specs.Faults.{Rose};
@@ -11,7 +11,7 @@ ghost use Rattle.table_file.specs.Limits.{blocks_fault};
 ghost use Rattle.table_file.specs.Tables.{IsTableOf, IsRowAt, Holds};
 ghost use Rattle.table_file.specs.Writing.{block_length};
 ghost use Rattle.table_file.specs.declared.put_fault.PutFault.TheVariants as puts;
-ghost use Rattle.table_cursor.specs.Trips.{TellsDamage, TellsTable, LimitsPut, IsRowWritten};
+ghost use Rattle.table_cursor.specs.Trips.{TellsDamage, TellsTable, LimitsPut, LimitsTrip, IsRowWritten, SpansEntries, ChangesTables};
 ghost use Rattle.table_cursor.specs.Views.{table_of, port_of, StandsIn, Keeps};
 ghost use Rattle.table_cursor.specs.Walking.{SpansRow};
 ghost use Rattle.table_cursor.specs.declared.trip_fault.TripFault.TheVariants.{Fault};
@@ -20,8 +20,10 @@ use crate::laws::{law_walk_ends, law_walk_told};
 use crate::table_cursor::TableCursor;
 use crate::trip_fault::TripFault;
 use block_pool::Pool;
-use disk_model::{Maker, Port};
-use peb_base::{Change, ChangeRef, Cursor, Entry, EntryRef, Key, List, Memory, TableRow, Value};
+use disk_model::{Devices, Maker, Port};
+use peb_base::{
+    Change, ChangeRef, Cursor, Entry, EntryRef, Key, List, Memory, Options, TableRow, Value,
+};
 use std::alloc::Global;
 use std::sync::Arc;
 use table_file::{PutFault, Table, TableWriter, law_holds, written_opens};
@@ -118,6 +120,7 @@ fn walk<P: Port>(alloc: Global, cursor: &mut TableCursor<P>) -> Result<List<Entr
     ensures undamaged { (es : List Entry) (place : Option ℕ) → StandsIn cursor.old es place →
         IfErr result (λ why. TellsDamage why → ⊥) }
     ensures damaged { IfErr result (TellsTable (table_of cursor.old).row.number) }
+    ensures unlimited { IfErr result (λ why. (full : ℕ) (es : List Entry) → LimitsTrip full es why) }
     ensures later { P.faults (port_of cursor.old) ≤ P.faults (port_of cursor.new) }
     ensures cause { result ≡ Err Fault →
         Rose (P.faults (port_of cursor.old)) (P.faults (port_of cursor.new)) }
@@ -155,6 +158,7 @@ fn walk_table<P: Port>(
     ensures undamaged { (es : List Entry) → IsTrue P.File.tells → Holds P.File.TableHandle table es →
         IfErr result.1 (λ why. TellsDamage why → ⊥) }
     ensures damaged { IfErr result.1 (TellsTable table.row.number) }
+    ensures unlimited { IfErr result.1 (λ why. (full : ℕ) (es : List Entry) → LimitsTrip full es why) }
     ensures later { P.faults port ≤ P.faults result.0 }
     ensures cause { result.1 ≡ Err Fault → Rose (P.faults port) (P.faults result.0) }
 {
@@ -177,11 +181,7 @@ fn walk_table<P: Port>(
 }
 
 /// Opens the table of a row through a port, which it gives back, and walks it.
-fn walk_row<P: Port>(
-    alloc: Global,
-    port: P,
-    row: TableRow,
-) -> (P, Result<List<Entry>, TripFault>)
+fn walk_row<P: Port>(alloc: Global, port: P, row: TableRow) -> (P, Result<List<Entry>, TripFault>)
     // what it gives
     ensures told { (full : ℕ) (es : List Entry) → IsTrue P.File.tells → IsRowWritten row full es →
         ((bytes : List ℕ) → (P.table_files port).sealed row.number ≡ Some bytes →
@@ -192,6 +192,7 @@ fn walk_row<P: Port>(
         (P.table_files port).sealed row.number ≡ Some (table_bytes full row.number es) →
         IfErr result.1 (λ why. TellsDamage why → ⊥) }
     ensures damaged { IfErr result.1 (TellsTable row.number) }
+    ensures unlimited { IfErr result.1 (λ why. (full : ℕ) (es : List Entry) → LimitsTrip full es why) }
     ensures later { P.faults port ≤ P.faults result.0 }
     ensures cause { result.1 ≡ Err Fault → Rose (P.faults port) (P.faults result.0) }
 {
@@ -203,4 +204,168 @@ fn walk_row<P: Port>(
         Err(why) => return (port, Err(TripFault::from(why))),
     };
     walk_table(alloc, port, table)
+}
+
+/// The length of a table's file, by its row.
+fn length_of(row: &TableRow) -> u64
+    ensures same { result ≡ row.now.bytes }
+    ensures fits { row.now.bytes < 2 ^ 64 }
+{
+    row.bytes
+}
+
+/// Writes the table of these entries, seals it, and gives its row.
+fn write_row<M: Maker>(
+    alloc: Global,
+    maker: &mut M,
+    options: &Options,
+    number: u64,
+    level: u8,
+    entries: &[Entry],
+) -> Result<TableRow, TripFault>
+    requires sorted { AreSorted entries.now }
+    requires some { 0 < length entries.now }
+    // what it gives
+    ensures row { IfOk result (λ row. IsRowWritten row options.now.block_bytes entries.now) }
+    ensures number { IfOk result (λ row. row.number ≡ number) }
+    // what it leaves
+    ensures sealed { OnOk result (IsTrue M.File.tells → M.sealed maker.new
+        ≡ with_table number (table_bytes options.now.block_bytes number entries.now)
+        (M.sealed maker.old)) }
+    ensures others { IsTrue M.File.tells → (n : ℕ) → (n ≡ number → ⊥) →
+        M.sealed maker.new n ≡ M.sealed maker.old n }
+    // when it fails
+    ensures limit { IfErr result (LimitsTrip options.now.block_bytes entries.now) }
+    ensures undamaged { IfErr result (λ why. TellsDamage why → ⊥) }
+    ensures later { M.faults maker.old ≤ M.faults maker.new }
+    ensures cause { result ≡ Err Fault → Rose (M.faults maker.old) (M.faults maker.new) }
+    // what stays
+    ensures gone { M.gone maker.new ≡ M.gone maker.old }
+{
+    let mut writer = match TableWriter::new(alloc, options) {
+        Ok(writer) => writer,
+        Err(_) => return Err(TripFault::Memory),
+    };
+    let table = match write(&mut writer, maker, number, level, entries) {
+        Ok(table) => table,
+        Err(why) => return Err(TripFault::from(why)),
+    };
+    let row = match table.row().copy(alloc) {
+        Ok(row) => row,
+        Err(_) => return Err(TripFault::Memory),
+    };
+    length_of(&row);
+    Ok(row)
+}
+
+/// Writes the table of these entries through a maker of the devices, and gives its row.
+fn written<D: Devices>(
+    alloc: Global,
+    devices: &mut D,
+    options: &Options,
+    number: u64,
+    level: u8,
+    entries: &[Entry],
+) -> Result<TableRow, TripFault>
+    requires sorted { AreSorted entries.now }
+    requires some { 0 < length entries.now }
+    // what it gives
+    ensures row { IfOk result (λ row. IsRowWritten row options.now.block_bytes entries.now) }
+    ensures number { IfOk result (λ row. row.number ≡ number) }
+    // what it leaves
+    ensures kept { OnOk result (IsTrue D.F.tells → (D.tables_told devices.new).kept number
+        ≡ Some (table_bytes options.now.block_bytes number entries.now)) }
+    ensures there { OnOk result (IsTrue D.F.tells → StaysOrGoes (D.tables_told devices.old).tally.gone number
+        (Some (table_bytes options.now.block_bytes number entries.now))
+        ((D.tables_told devices.new).files.sealed number)) }
+    ensures others { IsTrue D.F.tells → (n : ℕ) → (n ≡ number → ⊥) →
+        (D.tables_told devices.new).kept n ≡ (D.tables_told devices.old).kept n }
+    // when it fails
+    ensures limit { IfErr result (LimitsTrip options.now.block_bytes entries.now) }
+    ensures undamaged { IfErr result (λ why. TellsDamage why → ⊥) }
+    ensures later { min (D.tables_told devices.old).faults (2 ^ 64 - 1) ≤ (D.tables_told devices.new).faults }
+    ensures cause { result ≡ Err Fault →
+        Rose (D.tables_told devices.old).faults (D.tables_told devices.new).faults }
+    // what stays
+    ensures stays { ChangesTables D.Devices devices.old devices.new }
+{
+    let mut maker = match devices.maker() {
+        Ok(maker) => maker,
+        Err(_) => return Err(TripFault::Fault),
+    };
+    let made = write_row(alloc, &mut maker, options, number, level, entries);
+    devices.back_maker(maker);
+    made
+}
+
+/// Walks the table of a row through a port of the devices.
+fn walked<D: Devices>(
+    alloc: Global,
+    devices: &mut D,
+    row: TableRow,
+) -> Result<List<Entry>, TripFault>
+    // what it gives
+    ensures told { (full : ℕ) (es : List Entry) → IsTrue D.F.tells → IsRowWritten row full es →
+        ((bytes : List ℕ) → (D.tables_told devices.old).files.sealed row.number ≡ Some bytes →
+        bytes ≡ table_bytes full row.number es) → IfOk result (λ seen. seen ≡ es) }
+    ensures spans { IfOk result (λ seen. SpansRow row seen) }
+    // when it fails
+    ensures undamaged { (full : ℕ) (es : List Entry) → IsTrue D.F.tells → IsRowWritten row full es →
+        (D.tables_told devices.old).files.sealed row.number ≡ Some (table_bytes full row.number es) →
+        IfErr result (λ why. TellsDamage why → ⊥) }
+    ensures damaged { IfErr result (TellsTable row.number) }
+    ensures unlimited { IfErr result (λ why. (full : ℕ) (es : List Entry) → LimitsTrip full es why) }
+    ensures cause { result ≡ Err Fault →
+        Rose (D.tables_told devices.old).faults (D.tables_told devices.new).faults }
+    // what stays
+    ensures kept { (D.tables_told devices.new).kept ≡ (D.tables_told devices.old).kept }
+    ensures stays { ChangesTables D.Devices devices.old devices.new }
+{
+    let port = match devices.port() {
+        Ok(port) => port,
+        Err(_) => return Err(TripFault::Fault),
+    };
+    let (port, seen) = walk_row(alloc, port, row);
+    devices.back_port(port);
+    seen
+}
+
+/// Writes the table of these entries, which ascend, opens it again from its file by its row, and gives what a walk from its
+/// first entry to its end shows.
+///
+/// `Fault` comes only where the devices' count of faults of tables rose, `Limit` only where a table of the entries would pass
+/// the limit, and `Damaged` never over devices that tell their bytes and took no table of the number away.
+pub fn round_trip<D: Devices>(
+    alloc: Global,
+    devices: &mut D,
+    options: &Options,
+    number: u64,
+    level: u8,
+    entries: &[Entry],
+) -> Result<List<Entry>, TripFault>
+    requires sorted { AreSorted entries.now }
+    requires some { 0 < length entries.now }
+    // what it gives
+    ensures same { IfOk result (λ seen. IsTrue D.F.tells → seen ≡ entries.now) }
+    ensures spans { IfOk result (λ seen. SpansEntries entries.now seen) }
+    // what it leaves
+    ensures kept { OnOk result (IsTrue D.F.tells → (D.tables_told devices.new).kept number
+        ≡ Some (table_bytes options.now.block_bytes number entries.now)) }
+    ensures others { IsTrue D.F.tells → (n : ℕ) → (n ≡ number → ⊥) →
+        (D.tables_told devices.new).kept n ≡ (D.tables_told devices.old).kept n }
+    // when it fails
+    ensures limit { IfErr result (LimitsTrip options.now.block_bytes entries.now) }
+    ensures undamaged { IsTrue D.F.tells →
+        is_gone (D.tables_told devices.old).tally.gone number ≡ false →
+        IfErr result (λ why. TellsDamage why → ⊥) }
+    ensures damaged { IfErr result (TellsTable number) }
+    ensures cause { result ≡ Err Fault →
+        Rose (D.tables_told devices.old).faults (D.tables_told devices.new).faults }
+    // what stays
+    ensures stays { ChangesTables D.Devices devices.old devices.new }
+{
+    match written(alloc, devices, options, number, level, entries) {
+        Ok(row) => walked(alloc, devices, row),
+        Err(why) => Err(why),
+    }
 }

@@ -1,4 +1,4 @@
-use Rattle.std.proofs.Common.{◌≡◌, ◌∙◌, ◌<◌, ◌++◌, ◌∷◌, [], true, List, ℕ, length, length-append, sym, arith, rules}
+use Rattle.std.proofs.Common.{◌≡◌, ◌++◌, ◌∷◌, [], true, List, ℕ, length-append, arith, rules}
 use Rattle.peb_base.specs.EntryRefs.{entry_of}
 use Rattle.peb_base.specs.Entries.{IsEntry, AscendFrom, AreSorted, comes_before}
 use Rattle.peb_base.specs.Keys.{Bytes}

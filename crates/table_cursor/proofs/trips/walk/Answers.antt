@@ -1,13 +1,12 @@
-use Rattle.std.proofs.Common.{◌≡◌, ◌++◌, ◌∷◌, [], ◌∙◌, Option, Some, arith, sym, ap, subst}
+use Rattle.std.proofs.Common.{◌≡◌, ◌∙◌, Some, arith, sym, ap, subst}
 use Rattle.std.specs.Prelude.{option_map}
 use Rattle.peb_base.specs.Cursors.{first_place, next_place}
 use Rattle.peb_base.specs.EntryRefs.{entry_of}
-use Rattle.peb_base.specs.declared.entry.Entry.{Entry}
-use Rattle.table_cursor.specs.Trips.{TellsDamage}
+use Rattle.table_cursor.specs.Trips.{TellsDamage, LimitsTrip}
 use Rattle.table_cursor.specs.Views.{table_of, page_of, index_of, shown_by, StandsIn, WalksIn, keeps_on}
 use Rattle.table_cursor.specs.Walking.{in_front}
 use Rattle.table_cursor.specs.StandingLaws.{stands_among}
-use Rattle.table_cursor.proofs.Tripping.{undamaged, nowhere}
+use Rattle.table_cursor.proofs.Tripping.{undamaged, nowhere, read_unlimited}
 use Rattle.table_cursor.proofs.trips.walk.Goals as goal
 
 pub returns-in-Err-clause-undamaged : goal.returns-in-Err-clause-undamaged
@@ -49,3 +48,10 @@ returns-clause-told g c = λ es place stands.
     let among = stands_among g.P.File.TableHandle (table_of cursor) (page_of cursor) (index_of cursor) es now.0 now.1 (λ some. (cursor.shown some).inside) in
     let none = nowhere es now.0 (shown_by cursor) among (sym c.at.ensures.lent ∙ ap (option_map entry_of) c.in_default.is) in
     c.of.ensures ∙ c.law_walk_told.ensures es c.walk.seen.items now.0 now.1 c.walk.invariant.over ∙ ap (λ p. in_front p es) none
+
+pub returns-in-Err-clause-unlimited : goal.returns-in-Err-clause-unlimited
+returns-in-Err-clause-unlimited g c = λ full es. subst (LimitsTrip full es) (sym c.from.ensures) (read_unlimited full es c.in-Err.why)
+
+pub returns-in-Err-next-clause-unlimited : goal.returns-in-Err-next-clause-unlimited
+returns-in-Err-next-clause-unlimited g c = λ full es.
+    subst (LimitsTrip full es) (sym c.from-in-Err-next.ensures) (read_unlimited full es c.in-Err-next.why)

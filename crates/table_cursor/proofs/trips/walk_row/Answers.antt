@@ -1,8 +1,7 @@
-use Rattle.std.proofs.Common.{◌≡◌, ◌∙◌, Some, refl, sym, ap, subst}
-use Rattle.peb_base.specs.declared.entry.Entry.{Entry}
-use Rattle.table_file.specs.Form.{table_bytes, blocks_of, items_from, index_bytes}
-use Rattle.table_cursor.specs.Trips.{TellsDamage}
-use Rattle.table_cursor.proofs.Tripping.{opened_over, damage_opening, short_index, same_bytes}
+use Rattle.std.proofs.Common.{◌∙◌, refl, sym, subst}
+use Rattle.table_file.specs.Form.{table_bytes}
+use Rattle.table_cursor.specs.Trips.{TellsDamage, LimitsTrip}
+use Rattle.table_cursor.proofs.Tripping.{opened_over, damage_opening, short_index, same_bytes, opening_unlimited}
 use Rattle.table_cursor.proofs.trips.walk_row.Goals as goal
 
 pub returns-in-Err-clause-undamaged : goal.returns-in-Err-clause-undamaged
@@ -27,3 +26,6 @@ returns-clause-undamaged g c = λ full es told w there.
     let bytes = same_bytes _ _ (sym (opened.found told) ∙ there) in
     c.walk_table.ensures.undamaged es told
     (c.law_holds.ensures.opened table full es (opened_over g.P.File.TableHandle table c.args.row full es w opened.row opened.number bytes (opened.opened told)))
+
+pub returns-in-Err-clause-unlimited : goal.returns-in-Err-clause-unlimited
+returns-in-Err-clause-unlimited g c = λ full es. subst (LimitsTrip full es) (sym c.from.ensures) (opening_unlimited full es c.in-Err.why)

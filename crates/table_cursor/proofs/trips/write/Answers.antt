@@ -1,14 +1,13 @@
-use Rattle.std.proofs.Common.{◌≡◌, ◌≤◌, ◌<◌, ◌∷◌, ◌++◌, [], ◌∙◌, List, length, take, sym, ap, subst, arith, ◌+◌}
+use Rattle.std.proofs.Common.{◌≡◌, ◌<◌, ◌∷◌, ◌++◌, [], ◌∙◌, List, length, take, sym, ap, subst, arith}
 use Rattle.std.proofs.lemmas.List.{take_all}
 use Rattle.peb_base.specs.Entries.{AreSorted}
-use Rattle.peb_base.specs.EntryRefs.{entry_of}
 use Rattle.peb_base.specs.declared.entry.Entry.{Entry}
 use Rattle.table_file.specs.Form.{blocks_of}
 use Rattle.table_file.specs.Limits.{push_fault, IsRefused}
 use Rattle.table_file.specs.Tables.{IsTableOf}
 use Rattle.table_file.specs.Writing.{block_length, HasPushed}
 use Rattle.table_cursor.specs.Trips.{LimitsPut}
-use Rattle.table_cursor.proofs.Tripping.{AtEach, at_each, limits_push, limits_end}
+use Rattle.table_cursor.proofs.Tripping.{at_each, limits_push, limits_end}
 use Rattle.table_cursor.proofs.trips.write.Goals as goal
 
 pub push-requires : goal.push-requires
