@@ -6,6 +6,7 @@ pub mod Indexing
 pub mod Lengths
 pub mod Openings
 pub mod Parting
+pub mod Placing
 pub mod Reopened
 pub mod Searching
 pub mod Spelled

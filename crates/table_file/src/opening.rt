@@ -1,7 +1,7 @@
 //! Opening tables.
 
-ghost use Rattle.std.specs.Prelude.{◌≡◌, ◌+◌, ◌-◌, ◌<◌, ◌≤◌, ◌^◌, List, ℕ, Some, Err, length, take, drop, IsTrue, IfOk, IfErr};
-ghost use Rattle.table_file.specs.Damages.{IsDamage, TellsTable};
+ghost use Rattle.std.specs.Prelude.{◌≡◌, ◌+◌, ◌-◌, ◌<◌, ◌≤◌, ◌^◌, List, ℕ, None, Some, Err, length, take, drop, IsTrue, IfOk, IfErr};
+ghost use Rattle.table_file.specs.Damages.{IsDamage, TellsTable, IsToldAt, EndsWithFooter, IsPlaceOfDamage};
 ghost use Rattle.table_file.specs.Form.{footer_bytes, index_bytes};
 ghost use Rattle.table_file.specs.Opening.{IsFooterOf, IsIndex, IsNoTable, OpensAs};
 ghost use Rattle.disk_model.specs.Ports.{ReadsAtMost};
@@ -56,6 +56,8 @@ fn read_footer<P: Port>(
     ensures long { IfOk result (λ footer. IsTrue P.File.tells → length (P.File.bytes file.now) ≡ row.now.bytes) }
     ensures spelled { IfOk result (λ footer. IsTrue P.File.tells → drop (row.now.bytes - 48) (P.File.bytes file.now) ≡ footer_bytes footer) }
     ensures damaged { IfErr result (λ why. IsDamage why → IsTrue P.File.tells → IsNoTable row.now (P.File.bytes file.now)) }
+    ensures place { IfErr result (λ why. IsTrue P.File.tells →
+        IsToldAt (IsPlaceOfDamage row.now (P.File.bytes file.now)) why) }
     ensures table { IfErr result (TellsTable row.now.number) }
     ensures port { ReadsAtMost P.Port 1 port.old port.new (result ≡ Err Fault) }
 {
@@ -94,6 +96,9 @@ fn read_index<P: Port>(
     ensures index { IfOk result (λ items. IsIndex footer.now.index items.items) }
     ensures spelled { IfOk result (λ items. IsTrue P.File.tells → take footer.now.index_len (drop footer.now.index (P.File.bytes file.now)) ≡ index_bytes items.items) }
     ensures damaged { IfErr result (λ why. IsDamage why → IsTrue P.File.tells → drop (row.now.bytes - 48) (P.File.bytes file.now) ≡ footer_bytes footer.now → IsNoTable row.now (P.File.bytes file.now)) }
+    ensures place { IfErr result (λ why. IsTrue P.File.tells →
+        EndsWithFooter row.now (P.File.bytes file.now) footer.now →
+        IsToldAt (IsPlaceOfDamage row.now (P.File.bytes file.now)) why) }
     ensures table { IfErr result (TellsTable row.now.number) }
     ensures port { ReadsAtMost P.Port 1 port.old port.new (result ≡ Err Fault) }
 {
@@ -149,7 +154,7 @@ fn read_filter<P: Port>(
 impl<F: TableHandle> Table<F> {
     /// Opens the table of a row: finds its file, and reads footer, index and filter, in this order.
     ///
-    /// `Damaged` comes only where the file isn't there, or where its length, footer, index or the filter's length disagree with the
+    /// `Damaged` comes only where the file isn't there, or where its length, its footer, its index or the filter's length disagree with the
     /// row. `Fault` comes only where the port's count of faults rose.
     pub fn open<P: Port<File = F>>(
         alloc: Global,
@@ -161,6 +166,11 @@ impl<F: TableHandle> Table<F> {
         ensures found { IfOk result (λ table. IsTrue F.tells → (P.table_files port.old).sealed row.number ≡ Some (F.bytes table.file)) }
         ensures opened { IfOk result (λ table. IsTrue F.tells → OpensAs row table.items table.filter (F.bytes table.file)) }
         ensures damaged { IfErr result (λ why. IsDamage why → IsTrue F.tells → (bytes : List ℕ) → (P.table_files port.old).sealed row.number ≡ Some bytes → IsNoTable row bytes) }
+        ensures place { IfErr result (λ why. IsTrue F.tells → (bytes : List ℕ) →
+            (P.table_files port.old).sealed row.number ≡ Some bytes →
+            IsToldAt (IsPlaceOfDamage row bytes) why) }
+        ensures absent { IfErr result (λ why. IsTrue F.tells →
+            (P.table_files port.old).sealed row.number ≡ None → IsToldAt (λ at. at ≡ 0) why) }
         ensures table { IfErr result (TellsTable row.number) }
         ensures port { ReadsAtMost P.Port 3 port.old port.new (result ≡ Err Fault) }
     {

@@ -1,5 +1,8 @@
-use Rattle.std.proofs.Common.{◌≡◌, ◌-◌, ◌∙◌, length, take, drop, ap, sym, arith, length-drop}
+use Rattle.std.proofs.Common.{◌≡◌, ◌+◌, ◌-◌, ◌∙◌, length, take, drop, ap, sym, subst, arith, length-drop}
+use Rattle.std.specs.Prelude.{min}
+use Rattle.table_file.specs.Damages.{IsPlaceOfDamage}
 use Rattle.table_file.proofs.Openings.{tail_long, whole_tail}
+use Rattle.table_file.proofs.Placing.{length_place, footer_place}
 use Rattle.table_file.proofs.Spelled.{length-footer}
 use Rattle.table_file.proofs.opening.read_footer.Goals as goal
 
@@ -26,3 +29,22 @@ pub returns-clause-damaged : goal.returns-clause-damaged
 returns-clause-damaged g c = λ damage told items filter o.
     let read = c.as_slice-bytes.ensures.value ∙ c.in-Ok.ensures.bytes told in
     c.in-None.ensures.none o.footer o.agrees (read ∙ tail_long c.args.row.now items filter _ o)
+
+pub returns-then-bytes-ne48-clause-place : goal.returns-then-bytes-ne48-clause-place
+returns-then-bytes-ne48-clause-place g c = λ told.
+    let read = c.as_slice-bytes.ensures.value ∙ c.in-Ok.ensures.bytes told in
+    let row = c.args.row.now in
+    let bytes = g.P.File.TableHandle.bytes c.args.file.now in
+    let count : min (length c.as_slice-bytes.result.now) 48 ≡ c.min.result = omega arith in
+    subst (λ n. IsPlaceOfDamage row bytes (row.bytes - 48 + n)) count
+    (length_place row bytes c.as_slice-bytes.result.now c.requires read c.if-bytes-ne48.true)
+
+pub returns-clause-place : goal.returns-clause-place
+returns-clause-place g c = λ told.
+    let bytes = g.P.File.TableHandle.bytes c.args.file.now in
+    let tail = drop (c.args.row.now.bytes - 48) bytes in
+    let read = c.as_slice-bytes.ensures.value ∙ c.in-Ok.ensures.bytes told in
+    let whole : take 49 tail ≡ tail = whole_tail 48 tail (ap length (sym read) ∙ c.if-bytes-ne48.false) in
+    let long : length bytes ≡ c.args.row.now.bytes =
+    omega (arith, c.requires, ap length read, c.if-bytes-ne48.false, ap length whole, length-drop (c.args.row.now.bytes - 48) bytes) in
+    footer_place c.args.row.now bytes c.as_slice-bytes.result.now c.requires long (read ∙ whole) c.in-None.ensures.none

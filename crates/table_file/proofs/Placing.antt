@@ -1,0 +1,61 @@
+-- Where the bytes of a table are damaged.
+use Rattle.std.proofs.Common.{◌≡◌, ◌≢◌, ℕ, ◌+◌, ◌-◌, ◌<◌, ◌≤◌, ◌^◌, ◌∙◌, List, length, take, drop, refl, sym, ap, arith, length-drop}
+use Rattle.std.specs.Prelude.{min, max}
+use Rattle.std.proofs.lemmas.List.{length-take}
+use Rattle.peb_base.specs.declared.table_row.TableRow.{TableRow}
+use Rattle.table_file.specs.Damages.{IsDamage, IsToldAt, EndsWithFooter, IsPlaceOfDamage}
+use Rattle.table_file.specs.Form.{footer_bytes}
+use Rattle.table_file.specs.Opening.{IsFooterOf}
+use Rattle.table_file.specs.declared.footer.Footer.{Footer}
+use Rattle.table_file.specs.declared.table_fault.TableFault.{TableFault}
+use Rattle.table_file.specs.declared.table_fault.TableFault.TheVariants.{Fault, Damaged, Memory}
+use Rattle.table_file.proofs.Openings.{one_footer}
+
+-- what isn't damage is told at no place
+pub untold : (IsPlace : ℕ → Type 0) (why : TableFault) → (IsDamage why → ⊥) → IsToldAt IsPlace why
+untold IsPlace Fault none = tt
+untold IsPlace (Damaged table at) none = absurd (none tt)
+untold IsPlace Memory none = tt
+
+-- of a row of less than a footer nothing is read
+pub tiny_place : (row : TableRow) (bytes : List ℕ) → row.bytes < 48 → IsPlaceOfDamage row bytes 0
+tiny_place row bytes small = record {
+  tiny = λ lt. refl;
+  other_length = λ le differ. absurd (omega (arith, small, le));
+  no_footer = λ le long none. absurd (omega (arith, small, le));
+  footer_stands = λ footer ends. absurd (omega (arith, small, ends.agrees.end));
+}
+
+-- so many bytes, at most 49, were read where the footer's are by the row, and they weren't 48
+pub length_place : (row : TableRow) (bytes read : List ℕ) → 48 ≤ row.bytes → read ≡ take 49 (drop (row.bytes - 48) bytes) → length read ≢ 48
+    → IsPlaceOfDamage row bytes (row.bytes - 48 + min (length read) 48)
+length_place row bytes read le is differ =
+    let count : length read ≡ min 49 (length bytes - (row.bytes - 48)) =
+    ap length is ∙ length-take 49 (drop (row.bytes - 48) bytes) ∙ ap (min 49) (length-drop (row.bytes - 48) bytes) in
+    let other : length bytes ≡ row.bytes → ⊥ = λ long. differ (omega (arith, count, long, le)) in
+    record {
+      tiny = λ lt. absurd (omega (arith, lt, le));
+      other_length = λ le differ. omega (arith, count, le);
+      no_footer = λ le long none. absurd (other long);
+      footer_stands = λ footer ends. absurd (other ends.long);
+    }
+
+-- 48 bytes were read there, and are no footer that agrees
+pub footer_place : (row : TableRow) (bytes read : List ℕ) → 48 ≤ row.bytes → length bytes ≡ row.bytes → read ≡ drop (row.bytes - 48) bytes
+    → ((footer : Footer) → IsFooterOf row footer → read ≢ footer_bytes footer) → IsPlaceOfDamage row bytes (row.bytes - 48)
+footer_place row bytes read le long is none = record {
+  tiny = λ lt. absurd (omega (arith, lt, le));
+  other_length = λ le differ. absurd (differ long);
+  no_footer = λ le long none. refl;
+  footer_stands = λ footer ends. absurd (none footer ends.agrees (is ∙ ends.spelled));
+}
+
+-- a footer stands there that agrees
+pub index_place : (row : TableRow) (bytes : List ℕ) (footer : Footer) → row.bytes < 2 ^ 64 → EndsWithFooter row bytes footer → IsPlaceOfDamage row bytes footer.index
+index_place row bytes footer fits ends = record {
+  tiny = λ lt. absurd (omega (arith, lt, ends.agrees.end));
+  other_length = λ le differ. absurd (differ ends.long);
+  no_footer = λ le long none. absurd (none footer ends);
+  footer_stands = λ f also.
+      ap (λ (x : Footer). x.index) (one_footer row footer f fits ends.agrees also.agrees (sym ends.spelled ∙ also.spelled));
+}
