@@ -20,8 +20,10 @@ abbrev pub key_after : Bytes → List Entry → Bytes
 key_after before [] = before
 key_after before (e ∷ es) = key_after e.key es
 
--- what is kept of a block that is built: its bytes without the restarts, the restarts, the number of entries and the last key
-pub record IsBuilding (full : ℕ) (out places : List ℕ) (count : ℕ) (key : Bytes) (es : List Entry) : Type 0 where
+-- what is kept of a block that is built: its bytes without the restarts, the
+-- restarts, the number of entries and the last key
+pub record IsBuilding (full : ℕ) (out places : List ℕ) (count : ℕ) (key : Bytes)
+    (es : List Entry) : Type 0 where
   pub small : full ≤ 4096
   pub room : length out + length places ≤ 40956
   pub each : AreSorted es

@@ -29,13 +29,15 @@ entry_bytes place before e = parts_bytes (parts_at place before e)
 -- the bytes of entries from this place on
 unfoldable pub entries_bytes : ℕ → Bytes → List Entry → List ℕ
 entries_bytes place before [] = []
-entries_bytes place before (e ∷ es) = entry_bytes place before e ++ entries_bytes (suc place) e.key es
+entries_bytes place before (e ∷ es) =
+    entry_bytes place before e ++ entries_bytes (suc place) e.key es
 
 -- where the restarts stand among entries from this place on, of which the first stands at this byte
 unfoldable pub restarts : ℕ → ℕ → Bytes → List Entry → List ℕ
 restarts place at before [] = []
 restarts place at before (e ∷ es) =
-    (if is_restart place then at ∷ [] else []) ++ restarts (suc place) (at + length (entry_bytes place before e)) e.key es
+    (if is_restart place then at ∷ [] else [])
+    ++ restarts (suc place) (at + length (entry_bytes place before e)) e.key es
 
 -- the restarts of a block, counted from its first byte
 abbrev pub block_restarts : List Entry → List ℕ
@@ -48,7 +50,8 @@ places_bytes ps = flat_map (big_bytes 4) ps
 -- the kind byte, the entries, the places of the restarts, and their number
 unfoldable pub block_bytes : List Entry → List ℕ
 block_bytes es =
-    0 ∷ (entries_bytes 0 [] es ++ (places_bytes (block_restarts es) ++ big_bytes 4 (length (block_restarts es))))
+    0 ∷ (entries_bytes 0 [] es
+    ++ (places_bytes (block_restarts es) ++ big_bytes 4 (length (block_restarts es))))
 
 -- the bytes are the block of these entries, at least one and ascending
 pub record IsBlock (es : List Entry) (bytes : List ℕ) : Type 0 where

@@ -9,7 +9,8 @@ use Rattle.block_form.specs.declared.head.Head.{Head}
 use Rattle.block_form.specs.declared.fields.Fields.{Fields}
 
 unfoldable pub head_bytes : Head → List ℕ
-head_bytes h = big_bytes 2 h.shared ++ (big_bytes 2 h.rest ++ (big_bytes 8 h.number ++ (h.code ∷ big_bytes 4 h.value)))
+head_bytes h = big_bytes 2 h.shared
+    ++ (big_bytes 2 h.rest ++ (big_bytes 8 h.number ++ (h.code ∷ big_bytes 4 h.value)))
 
 pub record FitsHead (h : Head) : Type 0 where
   pub shared : h.shared < 2 ^ 16
@@ -36,7 +37,13 @@ pub record Parts : Type 0 where
   pub change : Change
 
 abbrev pub parts_of : Fields → Parts
-parts_of f = record { shared = f.shared; rest = f.rest.now; number = f.number; change = change_of f.change }
+parts_of f = record {
+  shared = f.shared;
+  rest = f.rest.now;
+  number = f.number;
+  change =
+      change_of f.change;
+}
 
 abbrev pub code_of : Change → ℕ
 code_of (Put value) = 1
@@ -67,7 +74,13 @@ pub record FitsParts (p : Parts) : Type 0 where
 -- what bytes read as, with no test
 abbrev pub parts_under : Head → List ℕ → Parts
 parts_under h body =
-    record { shared = h.shared; rest = take h.rest body; number = h.number; change = change_from h.code (take h.value (drop h.rest body)) }
+    record {
+      shared = h.shared;
+      rest = take h.rest body;
+      number = h.number;
+      change =
+          change_from h.code (take h.value (drop h.rest body));
+    }
 
 unfoldable pub parts_from : List ℕ → Parts
 parts_from bytes = parts_under (head_from bytes) (drop 17 bytes)

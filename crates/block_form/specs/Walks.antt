@@ -10,7 +10,8 @@ use Rattle.block_form.specs.Parts.{Parts, parts_from, behind_from}
 
 -- the entry of these parts, after this key
 abbrev pub entry_from : Bytes → Parts → Entry
-entry_from before p = record { key = take p.shared before ++ p.rest; number = p.number; change = p.change }
+entry_from before p =
+    record { key = take p.shared before ++ p.rest; number = p.number; change = p.change }
 
 -- the parts are those of an entry at this place, after this key and number
 pub record Meets (place : ℕ) (before : Bytes) (above : ℕ) (p : Parts) : Type 0 where
@@ -20,7 +21,8 @@ pub record Meets (place : ℕ) (before : Bytes) (above : ℕ) (p : Parts) : Type
   pub after : comes_before before above (take p.shared before ++ p.rest) p.number ≡ true
 
 -- the bytes begin with an entry of these parts
-pub record IsNext (place : ℕ) (before : Bytes) (above : ℕ) (bytes : List ℕ) (p : Parts) (behind : List ℕ) : Type 0 where
+pub record IsNext (place : ℕ) (before : Bytes) (above : ℕ) (bytes : List ℕ) (p : Parts)
+    (behind : List ℕ) : Type 0 where
   pub meets : Meets place before above p
   pub spelled : bytes ≡ entry_bytes place before (entry_from before p) ++ behind
 
@@ -37,7 +39,8 @@ abbrev pub places_at : ℕ → ℕ → List ℕ
 places_at place at = if is_restart place then big_bytes 4 at else []
 
 -- the bytes and the places are those of these entries, from the one at this place on
-pub record Spells (place : ℕ) (at : ℕ) (before : Bytes) (above : ℕ) (es : List Entry) (bytes : List ℕ) (places : List ℕ) : Type 0 where
+pub record Spells (place : ℕ) (at : ℕ) (before : Bytes) (above : ℕ) (es : List Entry)
+    (bytes : List ℕ) (places : List ℕ) : Type 0 where
   pub each : AscendFrom before above es
   pub spelled : bytes ≡ entries_bytes place before es
   pub placed : places ≡ places_bytes (restarts place at before es)

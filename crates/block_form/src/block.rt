@@ -27,7 +27,8 @@ pub struct Block<'a> {
     places: &'a [u8],
     count: usize,
     ghost small: { length entries.now ≤ 40960 },
-    ghost placed: { places.now ≡ places_bytes (block_restarts (entries_from count [] entries.now)) },
+    ghost placed: { places.now
+        ≡ places_bytes (block_restarts (entries_from count [] entries.now)) },
 }
 
 impl<'a> Model for Block<'a> {
@@ -39,7 +40,8 @@ impl<'a> Model for Block<'a> {
 
     ghost view = { λ block. entries_from block.count [] block.entries.now };
 
-    ghost invariant = { λ block. HoldsEntries block.entries.now block.count (entries_from block.count [] block.entries.now) };
+    ghost invariant = { λ block. HoldsEntries block.entries.now block.count
+        (entries_from block.count [] block.entries.now) };
 }
 
 impl<'a> Block<'a> {
@@ -55,8 +57,8 @@ impl<'a> Block<'a> {
         Ok(block)
     }
 
-    /// Reads a block, and tells in the same pass its last key, which is left in `key_out`, the last number, and the least and greatest
-    /// number.
+    /// Reads a block, and tells in the same pass its last key, which is left in `key_out`, the
+    /// last number, and the least and greatest number.
     ///
     /// `Form` comes exactly where no list of entries has these bytes as its spelling.
     pub fn read_ends(bytes: &'a [u8], key_out: &mut KeyBuf) -> Result<(Block<'a>, Ends), BlockFault>
@@ -82,8 +84,8 @@ impl<'a> Block<'a> {
         Ok((block, ends))
     }
 
-    /// Reads a block again that is known to be one, of so many entries, without a walk over its bytes: its length and the
-    /// number of its restarts tell where its entries stand.
+    /// Reads a block again that is known to be one, of so many entries, without a walk over its bytes: its
+    /// length and the number of its restarts tell where its entries stand.
     pub fn again(bytes: &'a [u8], count: usize) -> Block<'a>
         requires { (es : List Entry) × IsBlock es bytes.now × (length es ≡ count) }
         ensures { IsBlock result bytes.now }
@@ -111,7 +113,8 @@ impl Block<'_> {
         self.count
     }
 
-    /// The place of the first entry at or after this key and number, in entry order, or the number of entries.
+    /// The place of the first entry at or after this key and number, in
+    /// entry order, or the number of entries.
     pub fn find(&self, key: &[u8], number: Number) -> usize
         ensures { result ≡ first_from key.now number self.now }
     {
@@ -120,8 +123,9 @@ impl Block<'_> {
         place
     }
 
-    /// Goes to the first entry at or after this key and number, in entry order, or behind the last: gives its place and where it
-    /// begins, and leaves its key. It halves over the restarts, and then looks at sixteen entries at most.
+    /// Goes to the first entry at or after this key and number, in entry order, or behind the
+    /// last: gives its place and where it begins, and leaves its key. It halves over the
+    /// restarts, and then looks at sixteen entries at most.
     pub fn seek(&self, key: &[u8], number: Number, key_out: &mut KeyBuf) -> (usize, usize)
         ensures place { result.0 ≡ first_from key.now number self.now }
         ensures at { result.1 ≡ offset_of result.0 self.now }
@@ -139,13 +143,15 @@ impl Block<'_> {
         (place, at)
     }
 
-    /// The place of the last restart whose entry comes before this key and number, or of the first restart. The first entry at or
-    /// after them stands there or at most sixteen places behind.
+    /// The place of the last restart whose entry comes before this key and number, or of the first restart.
+    /// The first entry at or after them stands there or at most sixteen places behind.
     fn restart_before(&self, key: &[u8], number: u64) -> usize
         ensures restart { result % 16 ≡ 0 }
         ensures inside { result < length self.now }
-        ensures passed { (e : Entry) → slice_get self.now result ≡ Some e → (result ≡ 0) ⊎ (comes_before e.key e.number key.now number ≡ true) }
-        ensures near { (result ≤ first_from key.now number self.now) × (first_from key.now number self.now ≤ result + 16) }
+        ensures passed { (e : Entry) → slice_get self.now result ≡ Some e → (result ≡ 0)
+            ⊎ (comes_before e.key e.number key.now number ≡ true) }
+        ensures near { (result ≤ first_from key.now number self.now)
+            × (first_from key.now number self.now ≤ result + 16) }
     {
         let mut low = 0;
         let mut high = (self.count - 1) / 16 + 1;
@@ -164,7 +170,8 @@ impl Block<'_> {
     fn restart_is_passed(&self, place: usize, key: &[u8], number: u64) -> bool
         requires restart { place % 16 ≡ 0 }
         requires place { place < length self.now }
-        ensures { (e : Entry) → slice_get self.now place ≡ Some e → result ≡ comes_before e.key e.number key.now number }
+        ensures { (e : Entry) → slice_get self.now place ≡ Some e
+            → result ≡ comes_before e.key e.number key.now number }
     {
         let (here, above) = self.restart(place, self.offset_of_restart(place));
         is_before(here, above, key, number)
@@ -185,7 +192,8 @@ impl Block<'_> {
         requires restart { place % 16 ≡ 0 }
         requires place { place < length self.now }
         requires at { at ≡ offset_of place self.now }
-        ensures entry { (e : Entry) → slice_get self.now place ≡ Some e → (result.0.now ≡ e.key) × (result.1 ≡ e.number) }
+        ensures entry { (e : Entry) → slice_get self.now place ≡ Some e → (result.0.now ≡ e.key)
+            × (result.1 ≡ e.number) }
         ensures short { length result.0.now ≤ 1024 }
     {
         let rest = &self.entries[at..];
@@ -205,18 +213,21 @@ impl Block<'_> {
         at
     }
 
-    /// Whether the entry at a place, which begins here and of which this is the key, comes before another key and number.
+    /// Whether the entry at a place, which begins here and of which this is the
+    /// key, comes before another key and number.
     fn is_passed(&self, place: usize, at: usize, here: &[u8], key: &[u8], number: u64) -> bool
         requires place { place < length self.now }
         requires at { at ≡ offset_of place self.now }
         requires key { (e : Entry) → slice_get self.now place ≡ Some e → here.now ≡ e.key }
-        ensures { (e : Entry) → slice_get self.now place ≡ Some e → result ≡ comes_before e.key e.number key.now number }
+        ensures { (e : Entry) → slice_get self.now place ≡ Some e
+            → result ≡ comes_before e.key e.number key.now number }
     {
         let rest = &self.entries[at..];
         is_before(here, peek(rest).number, key, number)
     }
 
-    /// Goes from the entry at a place, which begins here, to the one behind it, if there is one: gives where it begins, and leaves its key.
+    /// Goes from the entry at a place, which begins here, to the one behind it, if there is
+    /// one: gives where it begins, and leaves its key.
     fn step(&self, place: usize, at: usize, key: &mut KeyBuf) -> usize
         requires place { place < length self.now }
         requires at { at ≡ offset_of place self.now }
@@ -231,7 +242,8 @@ impl Block<'_> {
         behind
     }
 
-    /// The entry at a place below the number of entries, with its value lent and its key put together in `key_out`.
+    /// The entry at a place below the number of entries, with its value lent
+    /// and its key put together in `key_out`.
     pub fn entry_at<'k>(&'k self, place: usize, key_out: &'k mut KeyBuf) -> EntryRef<'k>
         requires { place < length self.now }
         ensures { slice_get self.now place ≡ Some (entry_of result) }
@@ -240,7 +252,8 @@ impl Block<'_> {
         entry_at(self.entries, self.count, place, at, key_out.bytes())
     }
 
-    /// Where the entry behind the one at a place begins, which begins here itself; both are counted from the first entry.
+    /// Where the entry behind the one at a place begins, which begins here itself;
+    /// both are counted from the first entry.
     pub fn offset_behind(&self, place: usize, at: usize) -> usize
         requires place { place < length self.now }
         requires at { at ≡ offset_of place self.now }
@@ -261,8 +274,8 @@ impl Block<'_> {
         step(key, rest);
     }
 
-    /// Puts the key of the entry at a place below the number of entries together in `key`, and gives where the entry begins. It begins
-    /// at the restart at or before the place.
+    /// Puts the key of the entry at a place below the number of entries together in `key`, and gives where
+    /// the entry begins. It begins at the restart at or before the place.
     pub fn go(&self, place: usize, key: &mut KeyBuf) -> usize
         requires { place < length self.now }
         ensures at { result ≡ offset_of place self.now }

@@ -15,7 +15,8 @@ use peb_base::{EntryRef, KeyBuf, Memory, Options};
 use std::alloc::Global;
 use std::marker::Model;
 
-/// A block that is built, and after it the next; contracts see the length at which a block is full, and the entries so far.
+/// A block that is built, and after it the next; contracts see the length at which
+/// a block is full, and the entries so far.
 #[derive(Drop)]
 pub struct BlockBuilder {
     full: u32,
@@ -32,9 +33,14 @@ impl Model for BlockBuilder {
 
     ghost Value = { Building };
 
-    ghost view = { λ b. record { full = b.full; entries = entries_from b.count [] (drop 1 (put_in b.room)) } };
+    ghost view = { λ b. record {
+      full = b.full;
+      entries =
+          entries_from b.count [] (drop 1 (put_in b.room));
+    } };
 
-    ghost invariant = { λ b. IsBuilding b.full (put_in b.room) b.places b.count b.key (entries_from b.count [] (drop 1 (put_in b.room))) };
+    ghost invariant = { λ b. IsBuilding b.full (put_in b.room) b.places b.count b.key
+        (entries_from b.count [] (drop 1 (put_in b.room))) };
 }
 
 /// Keeps the place of the entry, if it is a restart.
@@ -52,7 +58,8 @@ impl BlockBuilder {
 
     /// Takes the buffer in which blocks of the profile are built. No later call takes memory.
     pub fn new(alloc: Global, options: &Options) -> Result<BlockBuilder, Memory>
-        ensures { IfOk result (λ builder. builder ≡ record { full = options.now.block_bytes; entries = [] }) }
+        ensures { IfOk result
+            (λ builder. builder ≡ record { full = options.now.block_bytes; entries = [] }) }
     {
         let mut room = Room::new(alloc)?;
         room.put(&[0]);
@@ -83,7 +90,8 @@ impl BlockBuilder {
     pub fn push(&mut self, entry: EntryRef<'_>)
         requires sorted { AreSorted (self.old.entries ++ entry_of entry ∷ []) }
         requires room { length (block_bytes self.old.entries) < self.old.full }
-        ensures { self.new ≡ record self.old { entries = self.old.entries ++ entry_of entry.entry ∷ [] } }
+        ensures { self.new
+            ≡ record self.old { entries = self.old.entries ++ entry_of entry.entry ∷ [] } }
     {
         let at = self.room.len() as u32;
         put_place(&mut self.places, self.count, at);
@@ -95,7 +103,8 @@ impl BlockBuilder {
     /// Lends the bytes of the block, at least one entry, and begins the next one.
     pub fn finish(&mut self) -> &[u8]
         requires { 0 < length self.old.entries }
-        ensures* next { sem 𝓛 (Rests the_row self.entry (λ builder. builder ≡ record self.old { entries = [] })) }
+        ensures* next { sem 𝓛
+            (Rests the_row self.entry (λ builder. builder ≡ record self.old { entries = [] })) }
         ensures block { IsBlock self.old.entries result.now }
     {
         let count = (self.places.bytes().len() / 4) as u32;

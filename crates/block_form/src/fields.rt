@@ -20,8 +20,11 @@ pub struct Fields<'a> {
 
 /// The change that a code and the bytes of a value tell.
 fn change_at(code: u8, value: &[u8]) -> Option<ChangeRef<'_>>
-    ensures found { IfSome result (λ change. (code_of (change_of change) ≡ code) × (value_of (change_of change) ≡ value.now)) }
-    ensures none { IfNone result ((change : Change) → code_of change ≡ code → value_of change ≢ value.now) }
+    ensures found { IfSome result
+        (λ change. (code_of (change_of change) ≡ code)
+        × (value_of (change_of change) ≡ value.now)) }
+    ensures none { IfNone result
+        ((change : Change) → code_of change ≡ code → value_of change ≢ value.now) }
 {
     match code {
         0 => {
@@ -38,9 +41,11 @@ fn change_at(code: u8, value: &[u8]) -> Option<ChangeRef<'_>>
 
 /// The parts at the front, and the bytes behind them.
 pub fn fields_at(bytes: &[u8]) -> Option<(Fields<'_>, &[u8])>
-    ensures found { IfSome result (λ found. bytes.now ≡ parts_bytes (parts_of found.0) ++ found.1.now) }
+    ensures found { IfSome result
+        (λ found. bytes.now ≡ parts_bytes (parts_of found.0) ++ found.1.now) }
     ensures fits { IfSome result (λ found. FitsParts (parts_of found.0)) }
-    ensures none { IfNone result ((p : Parts) (behind : List ℕ) → FitsParts p → bytes.now ≢ parts_bytes p ++ behind) }
+    ensures none { IfNone result
+        ((p : Parts) (behind : List ℕ) → FitsParts p → bytes.now ≢ parts_bytes p ++ behind) }
 {
     if bytes.len() < 17 {
         return None;

@@ -29,7 +29,8 @@ fn differs(before: &[u8], rest: &[u8]) -> bool
 /// The part that is shared is what the entry at this place leaves out.
 fn is_longest(place: usize, before: &[u8], shared: usize, rest: &[u8]) -> bool
     requires { shared ≤ length before.now }
-    ensures { IsTrue result ↔ (shared_length place before.now (take shared before.now ++ rest.now) ≡ shared) }
+    ensures { IsTrue result ↔
+        (shared_length place before.now (take shared before.now ++ rest.now) ≡ shared) }
 {
     if place % 16 == 0 {
         return shared == 0;
@@ -37,10 +38,12 @@ fn is_longest(place: usize, before: &[u8], shared: usize, rest: &[u8]) -> bool
     differs(&before[shared..], rest)
 }
 
-/// The key that begins with the first `shared` bytes of the one before, and the number, come after those before.
+/// The key that begins with the first `shared` bytes of the one before, and
+/// the number, come after those before.
 pub fn comes_after(before: &[u8], above: u64, shared: usize, rest: &[u8], number: u64) -> bool
     requires { shared ≤ length before.now }
-    ensures { IsTrue result ↔ (comes_before before.now above (take shared before.now ++ rest.now) number ≡ true) }
+    ensures { IsTrue result ↔
+        (comes_before before.now above (take shared before.now ++ rest.now) number ≡ true) }
 {
     let left = &before[shared..];
     match left.cmp(&rest) {
@@ -83,8 +86,12 @@ pub fn entry_front<'b>(
     bytes: &'b [u8],
 ) -> Option<(Fields<'b>, &'b [u8])>
     requires { length before.now ≤ 1024 }
-    ensures found { IfSome result (λ found. IsNext place before.now above bytes.now (parts_of found.0) found.1.now) }
-    ensures none { IfNone result ((e : Entry) (behind : List ℕ) → IsEntry e → comes_before before.now above e.key e.number ≡ true → bytes.now ≢ entry_bytes place before.now e ++ behind) }
+    ensures found { IfSome result
+        (λ found. IsNext place before.now above bytes.now (parts_of found.0) found.1.now) }
+    ensures none { IfNone result
+        ((e : Entry) (behind : List ℕ) → IsEntry e
+        → comes_before before.now above e.key e.number ≡ true
+        → bytes.now ≢ entry_bytes place before.now e ++ behind) }
 {
     let Some(found) = fields_at(bytes) else {
         return None;

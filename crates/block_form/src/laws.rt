@@ -13,10 +13,13 @@ pub fn one_block()
 
 /// The entries of a block are what its bytes read as.
 pub fn block_reads()
-    ensures { (es : List Entry) (bytes : List ℕ) → IsBlock es bytes → entries_in (length es) bytes ≡ es }
+    ensures { (es : List Entry) (bytes : List ℕ) → IsBlock es bytes
+        → entries_in (length es) bytes ≡ es }
 {}
 
-/// A block grows by at most 33,813 bytes with an entry: its head, the longest key, the longest value, and a restart.
+/// A block grows by at most 33,813 bytes with an entry: its head, the longest
+/// key, the longest value, and a restart.
 pub fn block_grows()
-    ensures { (es : List Entry) (e : Entry) → IsEntry e → length (block_bytes (es ++ e ∷ [])) ≤ length (block_bytes es) + 33813 }
+    ensures { (es : List Entry) (e : Entry) → IsEntry e
+        → length (block_bytes (es ++ e ∷ [])) ≤ length (block_bytes es) + 33813 }
 {}

@@ -1,7 +1,8 @@
 //! Blocks: the bytes of some entries in order, which begin alike where their keys do.
 //!
-//! The layer above may use `BlockBuilder`, which makes the bytes, and `Block`, which reads them. It speaks of a block by
-//! the words of `specs/Form`: the list of its entries, and their one spelling. It may not know how either walks the bytes.
+//! The layer above may use `BlockBuilder`, which makes the bytes, and `Block`, which reads them.
+//! It speaks of a block by the words of `specs/Form`: the list of its entries, and their one
+//! spelling. It may not know how either walks the bytes.
 #![tactic(auto)]
 
 mod block;

@@ -30,8 +30,11 @@ fn places_behind(place: usize, at: u32, places: &[u8]) -> Option<&[u8]>
 /// What the entries tell that these bytes and these places are; the key of the last of them is left in `key`.
 pub fn ends_of(entries: &[u8], places: &[u8], key: &mut KeyBuf) -> Option<Ends>
     requires { length entries.now < 2 ^ 31 }
-    ensures found { IfSome result (λ ends. (es : List Entry) × Spells 0 1 [] 0 es entries.now places.now × TellsEnds es key.new ends) }
-    ensures none { IfNone result ((es : List Entry) → Spells 0 1 [] 0 es entries.now places.now → ⊥) }
+    ensures found { IfSome result
+        (λ ends. (es : List Entry) × Spells 0 1 [] 0 es entries.now places.now
+        × TellsEnds es key.new ends) }
+    ensures none { IfNone result
+        ((es : List Entry) → Spells 0 1 [] 0 es entries.now places.now → ⊥) }
 {
     key.put(0, &[]);
     let mut ends = Ends {

@@ -18,8 +18,12 @@ pub fn entry_at<'k>(
     key: &'k [u8],
 ) -> EntryRef<'k>
     requires place { place < count }
-    requires entries { (es : List Entry) × HoldsEntries entries.now count es × (at ≡ offset_of place es) × ((e : Entry) → slice_get es place ≡ Some e → key.now ≡ e.key) }
-    ensures { (es : List Entry) → HoldsEntries entries.now count es → at ≡ offset_of place es → ((e : Entry) → slice_get es place ≡ Some e → key.now ≡ e.key) → slice_get es place ≡ Some (entry_of result) }
+    requires entries { (es : List Entry) × HoldsEntries entries.now count es
+        × (at ≡ offset_of place es)
+        × ((e : Entry) → slice_get es place ≡ Some e → key.now ≡ e.key) }
+    ensures { (es : List Entry) → HoldsEntries entries.now count es → at ≡ offset_of place es
+        → ((e : Entry) → slice_get es place ≡ Some e → key.now ≡ e.key)
+        → slice_get es place ≡ Some (entry_of result) }
 {
     let rest = &entries[at..];
     let found = peek(rest);

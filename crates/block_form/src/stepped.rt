@@ -22,7 +22,9 @@ pub struct Stepped<'a> {
 /// What the entry at the front, which is known to stand there behind some key, has behind its own key.
 pub fn peek(rest: &[u8]) -> Stepped<'_>
     requires { (before : Bytes) × BeginsWithEntry before rest.now }
-    ensures { (place : ℕ) (before : Bytes) (e : Entry) (more : List ℕ) → IsEntry e → rest.now ≡ entry_bytes place before e ++ more → (result.number ≡ e.number) × (change_of result.change ≡ e.change) × (result.behind.now ≡ more) }
+    ensures { (place : ℕ) (before : Bytes) (e : Entry) (more : List ℕ) → IsEntry e
+        → rest.now ≡ entry_bytes place before e ++ more → (result.number ≡ e.number)
+        × (change_of result.change ≡ e.change) × (result.behind.now ≡ more) }
 {
     let Some(found) = fields_at(rest) else {
         unreachable!();
@@ -38,8 +40,10 @@ pub fn peek(rest: &[u8]) -> Stepped<'_>
 /// The whole key and the number of the entry at the front, which is known to be a restart.
 pub fn restart_at(rest: &[u8]) -> (&[u8], u64)
     requires { (before : Bytes) × BeginsWithEntry before rest.now }
-    ensures { (place : ℕ) (before : Bytes) (e : Entry) (more : List ℕ) → is_restart place ≡ true → IsEntry e
-        → rest.now ≡ entry_bytes place before e ++ more → (result.0.now ≡ e.key) × (result.1 ≡ e.number) }
+    ensures { (place : ℕ) (before : Bytes) (e : Entry) (more : List ℕ) → is_restart place ≡ true
+        → IsEntry e
+        → rest.now ≡ entry_bytes place before e ++ more → (result.0.now ≡ e.key)
+        × (result.1 ≡ e.number) }
 {
     let Some(found) = fields_at(rest) else {
         unreachable!();
@@ -51,7 +55,10 @@ pub fn restart_at(rest: &[u8]) -> (&[u8], u64)
 /// Goes over the entry at the front, which is known to stand there, and leaves its key.
 pub fn step<'a>(key: &mut KeyBuf, rest: &'a [u8]) -> Stepped<'a>
     requires { BeginsWithEntry key.old rest.now }
-    ensures { (place : ℕ) (e : Entry) (more : List ℕ) → IsEntry e → rest.now ≡ entry_bytes place key.old e ++ more → (key.new ≡ e.key) × (result.number ≡ e.number) × (change_of result.change ≡ e.change) × (result.behind.now ≡ more) }
+    ensures { (place : ℕ) (e : Entry) (more : List ℕ) → IsEntry e
+        → rest.now ≡ entry_bytes place key.old e ++ more → (key.new ≡ e.key)
+        × (result.number ≡ e.number) × (change_of result.change ≡ e.change)
+        × (result.behind.now ≡ more) }
 {
     let Some(found) = fields_at(rest) else {
         unreachable!();

@@ -51,7 +51,8 @@ fn code_and_value(change: ChangeRef<'_>) -> (u8, &[u8])
 /// Appends the bytes of an entry at this place, after this key.
 pub fn put_entry(out: &mut Room, place: usize, before: &[u8], item: &EntryRef<'_>)
     requires entry { IsEntry (entry_of item.now) }
-    requires room { length (put_in out.old) + length (entry_bytes place before.now (entry_of item.now)) ≤ 40960 }
+    requires room { length (put_in out.old) + length
+        (entry_bytes place before.now (entry_of item.now)) ≤ 40960 }
     ensures { put_in out.new ≡ put_in out.old ++ entry_bytes place before.now (entry_of item.now) }
 {
     let shared = shared_len(place, before, item.key);

@@ -6,8 +6,8 @@ ghost use Rattle.std.specs.Borrow.{sem};
 use crate::buffer::Buffer;
 use std::marker::Model;
 
-/// A buffer that is out, of 40,960 bytes. It isn't `Drop`: code that loses one, in place of giving it back, doesn't compile.
-/// No two loans share a buffer, since each owns its own.
+/// A buffer that is out, of 40,960 bytes. It isn't `Drop`: code that loses one, in place of giving it back,
+/// doesn't compile. No two loans share a buffer, since each owns its own.
 pub struct Loan {
     pub(crate) buffer: Buffer,
 }

@@ -36,10 +36,11 @@ impl Pool {
         Ok(Pool { free, out: 0 })
     }
 
-    /// Adds the buffers that are wanting, where fewer than `free` are in, so that exactly `free` are in then. Elsewhere nothing
-    /// changes, and no memory is taken. `Memory` changes nothing.
+    /// Adds the buffers that are wanting, where fewer than `free` are in, so that exactly `free` are in
+    /// then. Elsewhere nothing changes, and no memory is taken. `Memory` changes nothing.
     pub fn reserve(&mut self, free: u32) -> Result<(), Memory>
-        ensures ok { OnOk result (self.new ≡ record { free = max self.old.free free; out = self.old.out }) }
+        ensures ok { OnOk result
+            (self.new ≡ record { free = max self.old.free free; out = self.old.out }) }
         ensures err { OnErr result ((self.new ≡ self.old) × (self.old.free < free)) }
     {
         let wanted = free as usize;
@@ -56,7 +57,8 @@ impl Pool {
     /// Takes a buffer out. `None` comes exactly where all are out. It takes no memory.
     pub fn lend(&mut self) -> Option<Loan>
         ensures some { IsSome result ↔ (0 < self.old.free) }
-        ensures lent { OnSome result ((self.new.free + 1 ≡ self.old.free) × (self.new.out ≡ self.old.out + 1)) }
+        ensures lent { OnSome result
+            ((self.new.free + 1 ≡ self.old.free) × (self.new.out ≡ self.old.out + 1)) }
         ensures none { IfNone result (self.new ≡ self.old) }
     {
         let Some(buffer) = self.free.pop() else {

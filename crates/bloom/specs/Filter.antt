@@ -26,11 +26,14 @@ may_hold bytes hash = are_set 6 bytes hash
 
 -- the filter with the six probes of one more hash set
 abbrev pub with_hash : List ℕ → ℕ → List ℕ
-with_hash bytes hash = bytes_of (length bytes) (λ j. bit bytes j || is_probe 6 hash (8 * length bytes) j)
+with_hash bytes hash =
+    bytes_of (length bytes) (λ j. bit bytes j || is_probe 6 hash (8 * length bytes) j)
 
 -- the filter of so many entries: a bit is set exactly where it is a probe of one of the hashes
 abbrev pub filter_of : ℕ → List ℕ → List ℕ
-filter_of count hashes = bytes_of (filter_length count) (λ j. list_any (λ hash. is_probe 6 hash (8 * filter_length count) j) hashes)
+filter_of count hashes =
+    bytes_of (filter_length count)
+    (λ j. list_any (λ hash. is_probe 6 hash (8 * filter_length count) j) hashes)
 
 -- bytes of this length are no filter
 abbrev pub filter_fault : ℕ → Option FilterFault

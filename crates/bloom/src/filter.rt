@@ -13,8 +13,8 @@ use peb_base::{Memory, mixed};
 use std::alloc::Global;
 use std::marker::Model;
 
-/// The filter of a table: ten bits for each entry, among which each key sets six by its hash (double hashing after Kirsch and
-/// Mitzenmacher). A key that was added is never denied.
+/// The filter of a table: ten bits for each entry, among which each key sets six by its hash (double
+/// hashing after Kirsch and Mitzenmacher). A key that was added is never denied.
 #[derive(Drop)]
 pub struct Filter {
     bytes: Vec<u8>,

@@ -1,7 +1,8 @@
 //! Bloom filters, which tell of most keys that a table doesn't hold them.
 //!
-//! The layers above build a filter for so many entries, add the hash of each key, and keep its bytes; later they read it
-//! back and ask it. A contract sees a filter as its bytes. `specs/Filter.antt` says which bits are set.
+//! The layers above build a filter for so many entries, add the hash of each key, and keep
+//! its bytes; later they read it back and ask it. A contract sees a filter as its bytes.
+//! `specs/Filter.antt` says which bits are set.
 #![tactic(auto)]
 
 mod bits;

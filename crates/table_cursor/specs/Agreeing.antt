@@ -29,25 +29,31 @@ abbrev pub first_number : List Entry → ℕ
 first_number [] = 0
 first_number (e ∷ es) = e.number
 
--- a block of these entries at this place is what the table's index and row tell of the block at an index: its last entry is the item's, its first
--- comes after the last of the item before, the smallest and the largest key are the row's, and the numbers lie within the row's
-pub record Agrees (row : TableRow) (items : List IndexItem) (index at : ℕ) (es : List Entry) : Type 0 where
+-- a block of these entries at this place is what the table's index and row tell of the block at an index:
+-- its last entry is the item's, its first comes after the last of the item before, the smallest and the
+-- largest key are the row's, and the numbers lie within the row's
+pub record Agrees (row : TableRow) (items : List IndexItem) (index at : ℕ)
+    (es : List Entry) : Type 0 where
   pub indexed : slice_get items index ≡ Some (item_of at es)
-  pub after : comes_before (key_before [] index items) (number_before 0 index items) (first_key es) (first_number es) ≡ true
+  pub after : comes_before (key_before [] index items) (number_before 0 index items) (first_key es)
+      (first_number es) ≡ true
   pub smallest : index ≡ 0 → first_key es ≡ row.smallest
   pub largest : suc index ≡ length items → last_key es ≡ row.largest
   pub least : row.first ≤ least_number es
   pub greatest : greatest_number es ≤ row.last
 
--- the page shows an entry of the block at this index, which agrees with the table, and whose bytes stand in the file, where that is told
-pub record ShowsOf {F : Type 0} (g : Ghosts F) (t : TableParts F) (index : ℕ) (page : Reading) : Type 0 where
+-- the page shows an entry of the block at this index, which agrees with the table, and
+-- whose bytes stand in the file, where that is told
+pub record ShowsOf {F : Type 0} (g : Ghosts F) (t : TableParts F) (index : ℕ)
+    (page : Reading) : Type 0 where
   pub inside : page.place < length page.entries
   pub agrees : Agrees t.row t.items index page.at page.entries
   pub small : length page.bytes ≤ 40960
   pub spelled : page.bytes ≡ block_bytes page.entries
   pub read : IsTrue g.tells → page.bytes ≡ take (length page.bytes) (drop page.at (g.bytes t.file))
 
--- the entry is one of a block that agrees with the index and the row of the table, and whose bytes stand in its file, if they are told
+-- the entry is one of a block that agrees with the index and the row of the table, and
+-- whose bytes stand in its file, if they are told
 pub record IsOfBlock {F : Type 0} (g : Ghosts F) (t : TableParts F) (entry : Entry) : Type 0 where
   pub index : ℕ
   pub page : Reading

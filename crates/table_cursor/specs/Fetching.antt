@@ -7,8 +7,10 @@ use Rattle.table_file.specs.Tables.{TableParts}
 use Rattle.table_file.specs.declared.index_item.IndexItem.{IndexItem}
 use Rattle.table_cursor.specs.Agreeing.{Agrees}
 
--- the buffer begins with the block at an index of the table, so many entries, which agrees with the table; its bytes stand in the file, where that is told
-pub record Fetched {F : Type 0} (g : Ghosts F) (t : TableParts F) (index count : ℕ) (buffer : List ℕ) : Type 0 where
+-- the buffer begins with the block at an index of the table, so many entries, which agrees with the
+-- table; its bytes stand in the file, where that is told
+pub record Fetched {F : Type 0} (g : Ghosts F) (t : TableParts F) (index count : ℕ)
+    (buffer : List ℕ) : Type 0 where
   pub item : IndexItem
   pub indexed : slice_get t.items index ≡ Some item
   pub entries : List Entry
@@ -16,4 +18,5 @@ pub record Fetched {F : Type 0} (g : Ghosts F) (t : TableParts F) (index count :
   pub form : IsBlock entries (take item.len buffer)
   pub counted : length entries ≡ count
   pub agrees : Agrees t.row t.items index item.place entries
-  pub read : IsTrue g.tells → take item.len buffer ≡ take item.len (drop item.place (g.bytes t.file))
+  pub read : IsTrue g.tells
+      → take item.len buffer ≡ take item.len (drop item.place (g.bytes t.file))

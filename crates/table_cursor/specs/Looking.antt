@@ -24,14 +24,16 @@ Finds wanted (Err Fault) = Unit {0}
 Finds wanted (Err (Damaged table at)) = ⊥
 
 -- the entry is of this key, numbered at most so, and one of a block of the table
-pub record IsFound {F : Type 0} (g : Ghosts F) (t : TableParts F) (key : Bytes) (number : ℕ) (e : Entry) : Type 0 where
+pub record IsFound {F : Type 0} (g : Ghosts F) (t : TableParts F) (key : Bytes) (number : ℕ)
+    (e : Entry) : Type 0 where
   pub key_is : e.key ≡ key
   pub below : e.number ≤ number
   pub of_block : IsOfBlock g t e
 
--- this was found where the index leads, whatever the device tells: nothing behind the last block, else the newest one
--- of the block as it can be read
-pub record IsLookedUp {F : Type 0} (g : Ghosts F) (t : TableParts F) (key : Bytes) (number : ℕ) (found : Option Entry)
+-- this was found where the index leads, whatever the device tells: nothing behind the last block,
+-- else the newest one of the block as it can be read
+pub record IsLookedUp {F : Type 0} (g : Ghosts F) (t : TableParts F) (key : Bytes) (number : ℕ)
+    (found : Option Entry)
     : Type 0 where
   pub beyond : length t.items ≤ index_for key number t.items → found ≡ None
   pub inside : index_for key number t.items < length t.items → (block : List Entry)

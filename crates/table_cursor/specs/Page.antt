@@ -6,7 +6,8 @@ use Rattle.block_form.specs.Form.{IsBlock}
 use Rattle.block_form.specs.Spots.{offset_of}
 use Rattle.block_form.specs.Walks.{entries_in}
 
--- where a block begins in its file, its bytes, its entries, and a place among them; no entries where no block is read
+-- where a block begins in its file, its bytes, its entries, and a place among
+-- them; no entries where no block is read
 pub record Reading : Type 0 where
   pub at : ℕ
   pub bytes : List ℕ
@@ -16,10 +17,18 @@ pub record Reading : Type 0 where
 -- what the first bytes of a buffer hold
 abbrev pub reading : ℕ → ℕ → ℕ → ℕ → List ℕ → Reading
 reading at len count place buffer =
-    record { at = at; bytes = take len buffer; entries = entries_in count (take len buffer); place = place }
+    record {
+      at = at;
+      bytes = take len buffer;
+      entries = entries_in count (take len buffer);
+      place =
+          place;
+    }
 
--- what is kept of a page: where it has entries they are those of its block, its place is one of theirs, and the key there and where the entry begins are kept
-pub record IsPage (len count place here : ℕ) (buffer : List ℕ) (key : Bytes) (entries : List Entry) : Type 0 where
+-- what is kept of a page: where it has entries they are those of its block, its place is one of theirs,
+-- and the key there and where the entry begins are kept
+pub record IsPage (len count place here : ℕ) (buffer : List ℕ) (key : Bytes)
+    (entries : List Entry) : Type 0 where
   pub fits : len ≤ 40960
   pub count_is : count ≡ length entries
   pub block : 0 < count → IsBlock entries (take len buffer)

@@ -32,24 +32,30 @@ last_spot items index page = spot_in items index (length page.entries - 1)
 
 -- behind a place of a page's block: the next entry of the block, or the first of the next block
 abbrev pub spot_behind : List IndexItem → ℕ → ℕ → ℕ → Option (ℕ × ℕ)
-spot_behind items index place count = if nat_lt (place + 1) count then Some (index, place + 1) else first_spot items (index + 1)
+spot_behind items index place count =
+    if nat_lt (place + 1) count then Some (index, place + 1) else first_spot items (index + 1)
 
 -- one entry on from what the page shows; there is no step from nothing
 abbrev pub next_spot : List IndexItem → ℕ → Reading → Option (ℕ × ℕ)
-next_spot items index page = if length page.entries == 0 then None else spot_behind items index page.place (length page.entries)
+next_spot items index page = if length page.entries == 0 then None
+    else spot_behind items index page.place (length page.entries)
 
--- in front of a place of a page's block: the entry before, or the last of the block before, which is on the page then
+-- in front of a place of a page's block: the entry before, or the last of the
+-- block before, which is on the page then
 abbrev pub spot_before : List IndexItem → ℕ → ℕ → Reading → Option (ℕ × ℕ)
 spot_before items index place now =
-    if nat_lt 0 place then Some (index, place - 1) else if index == 0 then None else last_spot items (index - 1) now
+    if nat_lt 0 place then Some (index, place - 1) else if index == 0 then None
+    else last_spot items (index - 1) now
 
 -- one entry back from what the page shows, by the page after the step
 abbrev pub previous_spot : List IndexItem → ℕ → Reading → Reading → Option (ℕ × ℕ)
-previous_spot items index page now = if length page.entries == 0 then None else spot_before items index page.place now
+previous_spot items index page now =
+    if length page.entries == 0 then None else spot_before items index page.place now
 
 -- the first entry at or behind a key and number, by the index and by the page on which its block is then
 abbrev pub found_spot : List IndexItem → Bytes → ℕ → Reading → Option (ℕ × ℕ)
-found_spot items key number now = spot_in items (index_for key number items) (first_from key number now.entries)
+found_spot items key number now =
+    spot_in items (index_for key number items) (first_from key number now.entries)
 
 -- where a step leads from the block at an index, by the page after the step
 abbrev pub spot_after : Step → List IndexItem → ℕ → Reading → Option (ℕ × ℕ)

@@ -22,14 +22,16 @@ abbrev pub place_among : Reading → ℕ → List (List Entry) → Option ℕ
 place_among page index blocks = where_some page.entries (entries_before index blocks + page.place)
 
 -- the blocks have these entries, and the page shows the one at the index at this place among all, or nothing
-pub record OnPage (page : Reading) (index : ℕ) (blocks : List (List Entry)) (es : List Entry) (place : Option ℕ) : Type 0 where
+pub record OnPage (page : Reading) (index : ℕ) (blocks : List (List Entry)) (es : List Entry)
+    (place : Option ℕ) : Type 0 where
   pub whole : joined blocks ≡ es
   pub blocks_are : AreBlocks blocks
   pub here : 0 < length page.entries → slice_get blocks index ≡ Some page.entries
   pub there : place ≡ place_among page index blocks
 
 -- the table holds these entries, which its device tells, and the page shows the one at this place, or nothing
-pub record StandsAt {F : Type 0} (g : Ghosts F) (t : TableParts F) (page : Reading) (index : ℕ) (es : List Entry) (place : Option ℕ) : Type 0 where
+pub record StandsAt {F : Type 0} (g : Ghosts F) (t : TableParts F) (page : Reading) (index : ℕ)
+    (es : List Entry) (place : Option ℕ) : Type 0 where
   pub told : IsTrue g.tells
   pub holds : Holds g t es
   pub on : OnPage page index (blocks_of holds.full es) es place

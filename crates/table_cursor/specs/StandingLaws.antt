@@ -25,36 +25,60 @@ nothing zero = refl
 nothing (suc n) = refl
 
 -- a page with entries shows its place among those of all blocks
-pub shown : (page : Reading) (index : ℕ) (blocks : List (List Entry)) (es : List Entry) (place : Option ℕ) → OnPage page index blocks es place → 0 < length page.entries → place ≡ Some (entries_before index blocks + page.place)
-shown page index blocks es place on some = on.there ∙ some_there page.entries (entries_before index blocks + page.place) some
+pub shown : (page : Reading) (index : ℕ) (blocks : List (List Entry)) (es : List Entry)
+    (place : Option ℕ) → OnPage page index blocks es place → 0 < length page.entries
+    → place ≡ Some (entries_before index blocks + page.place)
+shown page index blocks es place on some =
+    on.there ∙ some_there page.entries (entries_before index blocks + page.place) some
 
-pub unshown : (page : Reading) (index : ℕ) (blocks : List (List Entry)) (es : List Entry) (place : Option ℕ) → OnPage page index blocks es place → length page.entries ≡ 0 → place ≡ None
-unshown page index blocks es place on none = on.there ∙ none_there page.entries (entries_before index blocks + page.place) none
+pub unshown : (page : Reading) (index : ℕ) (blocks : List (List Entry)) (es : List Entry)
+    (place : Option ℕ) → OnPage page index blocks es place → length page.entries ≡ 0 → place ≡ None
+unshown page index blocks es place on none =
+    on.there ∙ none_there page.entries (entries_before index blocks + page.place) none
 
 -- the entry that the page shows is the one at the place among all
-entry_shown : (page : Reading) (index : ℕ) (blocks : List (List Entry)) (es : List Entry) (place : Option ℕ) → OnPage page index blocks es place → (0 < length page.entries → page.place < length page.entries)
+entry_shown : (page : Reading) (index : ℕ) (blocks : List (List Entry)) (es : List Entry)
+    (place : Option ℕ) → OnPage page index blocks es place
+    → (0 < length page.entries → page.place < length page.entries)
     → slice_get page.entries page.place ≡ entry_at es place
 entry_shown page index blocks es place on inside = by page.entries refl
   where
     by : (l : List Entry) → page.entries ≡ l → slice_get page.entries page.place ≡ entry_at es place
-    by [] is = ap (λ l. slice_get l page.place) is ∙ nothing page.place ∙ sym (ap (entry_at es) (unshown page index blocks es place on (ap length is)))
+    by [] is = ap (λ l. slice_get l page.place) is ∙ nothing page.place
+        ∙ sym (ap (entry_at es) (unshown page index blocks es place on (ap length is)))
     by (e ∷ l) is =
         let some : 0 < length page.entries = omega (arith, ap length is) in
         let spot = among blocks index page.entries (on.here some) in
         let n = entries_before index blocks + page.place in
-        sym (spot.entry page.place (inside some)) ∙ ap (λ l. slice_get l n) on.whole ∙ sym (ap (entry_at es) (shown page index blocks es place on some))
+        sym (spot.entry page.place (inside some)) ∙ ap (λ l. slice_get l n) on.whole
+        ∙ sym (ap (entry_at es) (shown page index blocks es place on some))
 
-on_page_among : (page : Reading) (index : ℕ) (blocks : List (List Entry)) (es : List Entry) (place : Option ℕ) → OnPage page index blocks es place → AreSorted es → (0 < length page.entries → page.place < length page.entries)
+on_page_among : (page : Reading) (index : ℕ) (blocks : List (List Entry)) (es : List Entry)
+    (place : Option ℕ) → OnPage page index blocks es place → AreSorted es
+    → (0 < length page.entries → page.place < length page.entries)
     → StandsAmong es place (slice_get page.entries page.place)
-on_page_among page index blocks es place on sorted inside = record { sorted = sorted; inside = by page.entries refl; shows = entry_shown page index blocks es place on inside }
+on_page_among page index blocks es place on sorted inside =
+    record {
+      sorted = sorted;
+      inside = by page.entries refl;
+      shows =
+          entry_shown page index blocks es place on inside;
+    }
   where
     by : (l : List Entry) → page.entries ≡ l → IfSome place (λ n. n < length es)
-    by [] is = subst (λ p. IfSome p (λ n. n < length es)) (sym (unshown page index blocks es place on (ap length is))) tt
+    by [] is = subst (λ p. IfSome p (λ n. n < length es))
+        (sym (unshown page index blocks es place on (ap length is))) tt
     by (e ∷ l) is =
         let some : 0 < length page.entries = omega (arith, ap length is) in
         let spot = among blocks index page.entries (on.here some) in
-        subst (λ p. IfSome p (λ n. n < length es)) (sym (shown page index blocks es place on some)) (omega (arith, spot.within, inside some, ap length on.whole))
+        subst (λ p. IfSome p (λ n. n < length es)) (sym (shown page index blocks es place on some))
+        (omega (arith, spot.within, inside some, ap length on.whole))
 
-pub stands_among : {F : Type 0} (g : Ghosts F) (t : TableParts F) (page : Reading) (index : ℕ) (es : List Entry) (place : Option ℕ)
-    → StandsAt g t page index es place → (0 < length page.entries → page.place < length page.entries) → StandsAmong es place (slice_get page.entries page.place)
-stands_among g t page index es place stands inside = on_page_among page index (blocks_of stands.holds.full es) es place stands.on stands.holds.table.sorted inside
+pub stands_among : {F : Type 0} (g : Ghosts F) (t : TableParts F) (page : Reading) (index : ℕ)
+    (es : List Entry) (place : Option ℕ)
+    → StandsAt g t page index es place
+    → (0 < length page.entries → page.place < length page.entries)
+    → StandsAmong es place (slice_get page.entries page.place)
+stands_among g t page index es place stands inside =
+    on_page_among page index
+    (blocks_of stands.holds.full es) es place stands.on stands.holds.table.sorted inside

@@ -10,7 +10,8 @@ use Rattle.table_cursor.specs.declared.step.Step.TheVariants.{Nowhere, Within, F
 abbrev pub where_block : ℕ → List (List Entry) → ℕ → Option ℕ
 where_block index blocks place = if nat_lt index (length blocks) then Some place else None
 
--- the place among the entries of all blocks to which a step leads from a page on which the block at the index is
+-- the place among the entries of all blocks to which a step leads from a
+-- page on which the block at the index is
 abbrev pub target : Step → ℕ → List (List Entry) → Option ℕ
 target Nowhere index blocks = None
 target (Within place) index blocks = Some (entries_before index blocks + place)

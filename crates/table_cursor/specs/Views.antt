@@ -82,25 +82,39 @@ module _ {P F : Type 0} {p : Ghosts P F} {f : handles.Ghosts F} where
 
 -- a move with one read at most keeps the table, and shows nothing where it is refused; a steady port
 -- never fails it
-pub record Turns {P F : Type 0} {p : Ghosts P F} {f : handles.Ghosts F} (old new : TableCursor P F p f)
+pub record Turns {P F : Type 0} {p : Ghosts P F} {f : handles.Ghosts F}
+    (old new : TableCursor P F p f)
     (result : Result (Unit {0}) ReadFault) : Type 0 where
   pub table : new.table ≡ old.table
   pub nothing : OnErr result ((page_of new).entries ≡ [])
   pub port : ReadsAtMost p 1 (port_of old) (port_of new) (result ≡ Err Fault)
   pub sure : p.steady (port_of old) → result ≡ Err Fault → ⊥
 
--- what no move changes: the handle of the table is the same, the port has its tables still, and is steady where it was
-pub record Keeps {P F : Type 0} {p : Ghosts P F} {f : handles.Ghosts F} (a b : TableCursor P F p f) : Type 0 where
+-- what no move changes: the handle of the table is the same, the port has its
+-- tables still, and is steady where it was
+pub record Keeps {P F : Type 0} {p : Ghosts P F} {f : handles.Ghosts F}
+    (a b : TableCursor P F p f) : Type 0 where
   pub table : b.table ≡ a.table
   pub files : p.table_files (port_of b) ≡ p.table_files (port_of a)
   pub steady : p.steady (port_of a) → p.steady (port_of b)
 
 module _ {P F : Type 0} {p : Ghosts P F} {f : handles.Ghosts F} where
   pub keeps_self : (c : TableCursor P F p f) → Keeps c c
-  keeps_self c = record { table = λ i. c.table; files = λ i. p.table_files (port_of c); steady = λ s. s }
+  keeps_self c = record {
+    table = λ i. c.table;
+    files = λ i. p.table_files (port_of c);
+    steady =
+        λ s. s;
+  }
 
   pub keeps_on : (a b c : TableCursor P F p f) → Keeps a b → Keeps b c → Keeps a c
-  keeps_on a b c x y = record { table = y.table ∙ x.table; files = y.files ∙ x.files; steady = λ s. y.steady (x.steady s) }
+  keeps_on a b c x y =
+      record {
+        table = y.table ∙ x.table;
+        files = y.files ∙ x.files;
+        steady =
+            λ s. y.steady (x.steady s);
+      }
 
   -- damage of one block is damage of the table
   pub damage_in : {T : Type 0} (c : TableCursor P F p f) (index : ℕ) (r : Result T ReadFault)
@@ -109,13 +123,17 @@ module _ {P F : Type 0} {p : Ghosts P F} {f : handles.Ghosts F} where
   damage_in c index (Err Fault) damage = tt
   damage_in c index (Err (Damaged number at)) damage = record { index = index; is = damage }
 
-  pub keeps_damage : (a b : TableCursor P F p f) (number at : ℕ) → Keeps a b → DamageIn a number at ↔ DamageIn b number at
-  keeps_damage a b number at x =
-      (subst (λ t. IsDamageOf f (arc_value t) number at) (sym x.table), subst (λ t. IsDamageOf f (arc_value t) number at) x.table)
+  pub keeps_damage : (a b : TableCursor P F p f) (number at : ℕ) → Keeps a b
+      → DamageIn a number at ↔ DamageIn b number at
+  keeps_damage a b number at x = (
+    subst (λ t. IsDamageOf f (arc_value t) number at) (sym x.table),
+    subst (λ t. IsDamageOf f (arc_value t) number at) x.table,
+  )
 
 -- what every move leaves: a refusal shows nothing, is kept, has its cause, and tells damage only of
 -- the block at this index, to which the move goes; one read is made at most, and what it keeps stays
-pub record Moves {P F : Type 0} {p : Ghosts P F} {f : handles.Ghosts F} (old new : TableCursor P F p f)
+pub record Moves {P F : Type 0} {p : Ghosts P F} {f : handles.Ghosts F}
+    (old new : TableCursor P F p f)
     (index : ℕ) (result : Result (Unit {0}) ReadFault) : Type 0 where
   pub nothing : OnErr result (shown_by new ≡ None)
   pub refused : refused_of new ≡ refusal result

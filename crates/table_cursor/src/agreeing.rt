@@ -27,15 +27,18 @@ fn ends_with(here: &[u8], ends: &Ends, key: &[u8], number: Number) -> bool
 /// Whether the numbers of the entries of which this is told lie within the row's.
 fn numbers_fit(ends: &Ends, row: &TableRow) -> bool
     ensures { (es : List Entry) (key : Bytes) → TellsEnds es key ends.now → 0 < length es
-        → (IsTrue result ↔ (row.now.first ≤ least_number es) × (greatest_number es ≤ row.now.last)) }
+        → (IsTrue result ↔ (row.now.first ≤ least_number es)
+        × (greatest_number es ≤ row.now.last)) }
 {
     row.first.packed() <= ends.least && ends.greatest <= row.last.packed()
 }
 
-/// Whether an entry of this key and number comes after the last one of the block before, if it is in the block at an index.
+/// Whether an entry of this key and number comes after the last one of the block
+/// before, if it is in the block at an index.
 fn follows<F: TableHandle>(table: &Table<F>, index: usize, key: &[u8], number: u64) -> bool
     requires { index < length table.now.items }
-    ensures { result ≡ comes_before (key_before [] index table.now.items) (number_before 0 index table.now.items) key.now number }
+    ensures { result ≡ comes_before (key_before [] index table.now.items)
+        (number_before 0 index table.now.items) key.now number }
 {
     if index == 0 {
         return is_before(&[], 0, key, number);
@@ -57,7 +60,8 @@ fn opens_table<F: TableHandle>(table: &Table<F>, index: usize, key: &[u8]) -> bo
 /// Whether this key is the table's largest, if the block at this index is the last.
 fn closes_table<F: TableHandle>(table: &Table<F>, index: usize, key: &[u8]) -> bool
     requires { index < length table.now.items }
-    ensures { IsTrue result ↔ (suc index ≡ length table.now.items → key.now ≡ table.now.row.largest) }
+    ensures { IsTrue result ↔
+        (suc index ≡ length table.now.items → key.now ≡ table.now.row.largest) }
 {
     let blocks = table.blocks();
     if index + 1 != blocks {
@@ -75,14 +79,17 @@ fn begins_well<F: TableHandle>(
 ) -> bool
     requires some { 0 < length block.now }
     requires inside { index < length table.now.items }
-    ensures { IsTrue result ↔ (comes_before (key_before [] index table.now.items) (number_before 0 index table.now.items) (first_key block.now) (first_number block.now) ≡ true)
+    ensures { IsTrue result ↔
+        (comes_before (key_before [] index table.now.items) (number_before 0 index table.now.items)
+        (first_key block.now) (first_number block.now) ≡ true)
         × (index ≡ 0 → first_key block.now ≡ table.now.row.smallest) }
 {
     let first = block.entry_at(0, room);
     follows(table, index, first.key, first.number) && opens_table(table, index, first.key)
 }
 
-/// Whether the block, which is as long as the index says and of which this is told, is what the table tells of the one at this index.
+/// Whether the block, which is as long as the index says and of which this is told, is
+/// what the table tells of the one at this index.
 fn agrees<F: TableHandle>(
     table: &Table<F>,
     index: usize,
@@ -92,10 +99,13 @@ fn agrees<F: TableHandle>(
 ) -> bool
     requires some { 0 < length block.now }
     requires inside { index < length table.now.items }
-    requires long { (item : IndexItem) → slice_get table.now.items index ≡ Some item → item.len ≡ length (block_bytes block.now) }
+    requires long { (item : IndexItem) → slice_get table.now.items index ≡ Some item
+        → item.len ≡ length (block_bytes block.now) }
     requires ends { TellsEnds block.now room.old ends.now }
-    ensures yes { IsTrue result → (item : IndexItem) → slice_get table.now.items index ≡ Some item → Agrees table.now.row table.now.items index item.place block.now }
-    ensures no { (at : ℕ) → Agrees table.now.row table.now.items index at block.now → IsTrue result }
+    ensures yes { IsTrue result → (item : IndexItem) → slice_get table.now.items index ≡ Some item
+        → Agrees table.now.row table.now.items index item.place block.now }
+    ensures no { (at : ℕ) → Agrees table.now.row table.now.items index at block.now
+        → IsTrue result }
 {
     let (_, _, key, number) = table.item(index);
     if !ends_with(room.bytes(), ends, key, number) {
@@ -110,7 +120,8 @@ fn agrees<F: TableHandle>(
     begins_well(table, index, block, room)
 }
 
-/// How many entries the block of these bytes has, if they are the block at this index of the table. It needs room for a key.
+/// How many entries the block of these bytes has, if they are the block at this
+/// index of the table. It needs room for a key.
 pub fn count_at<F: TableHandle>(
     table: &Table<F>,
     index: usize,
@@ -118,8 +129,13 @@ pub fn count_at<F: TableHandle>(
     room: &mut KeyBuf,
 ) -> Option<usize>
     requires { index < length table.now.items }
-    ensures some { IfSome result (λ count. (es : List Entry) × IsBlock es bytes.now × (length es ≡ count) × ((item : IndexItem) → slice_get table.now.items index ≡ Some item → Agrees table.now.row table.now.items index item.place es)) }
-    ensures none { IfNone result ((at : ℕ) (es : List Entry) → IsBlock es bytes.now → Agrees table.now.row table.now.items index at es → ⊥) }
+    ensures some { IfSome result
+        (λ count. (es : List Entry) × IsBlock es bytes.now × (length es ≡ count)
+        × ((item : IndexItem) → slice_get table.now.items index ≡ Some item
+        → Agrees table.now.row table.now.items index item.place es)) }
+    ensures none { IfNone result
+        ((at : ℕ) (es : List Entry) → IsBlock es bytes.now
+        → Agrees table.now.row table.now.items index at es → ⊥) }
 {
     one_block();
     let Ok(read) = Block::read_ends(bytes, room) else {

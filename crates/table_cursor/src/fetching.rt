@@ -24,7 +24,8 @@ fn read_front<P: Port>(
 ) -> Result<usize, Failed>
     requires { len ≤ length room.old }
     ensures count { IfOk result (λ n. n ≤ len) }
-    ensures read { IfOk result (λ n. IsTrue P.File.tells → take n room.new ≡ take len (drop at (P.File.bytes file.now))) }
+    ensures read { IfOk result
+        (λ n. IsTrue P.File.tells → take n room.new ≡ take len (drop at (P.File.bytes file.now))) }
     ensures files { P.table_files port.new ≡ P.table_files port.old }
     ensures no_fewer { P.reads port.old ≤ P.reads port.new }
     ensures once { P.reads port.new ≤ P.reads port.old + 1 }
@@ -44,7 +45,8 @@ fn read_into<P: Port>(
 ) -> Result<usize, Failed>
     requires { len ≤ 40960 }
     ensures count { IfOk result (λ n. n ≤ len) }
-    ensures read { IfOk result (λ n. IsTrue P.File.tells → take n loan.new ≡ take len (drop at (P.File.bytes file.now))) }
+    ensures read { IfOk result
+        (λ n. IsTrue P.File.tells → take n loan.new ≡ take len (drop at (P.File.bytes file.now))) }
     ensures files { P.table_files port.new ≡ P.table_files port.old }
     ensures no_fewer { P.reads port.old ≤ P.reads port.new }
     ensures once { P.reads port.new ≤ P.reads port.old + 1 }
@@ -54,7 +56,8 @@ fn read_into<P: Port>(
     read_front(port, file, at, len, loan.bytes_mut())
 }
 
-/// Reads the block at an index of a table into a loan, and gives the number of its entries. It needs room for a key.
+/// Reads the block at an index of a table into a loan, and gives the number
+/// of its entries. It needs room for a key.
 pub fn fetch<P: Port>(
     table: &Table<P::File>,
     port: &mut P,
@@ -63,7 +66,8 @@ pub fn fetch<P: Port>(
     room: &mut KeyBuf,
 ) -> Result<usize, ReadFault>
     requires { index < length table.now.items }
-    ensures fetched { IfOk result (λ count. Fetched P.File.TableHandle table.now index count loan.new) }
+    ensures fetched { IfOk result
+        (λ count. Fetched P.File.TableHandle table.now index count loan.new) }
     ensures damaged { IfDamage result (IsDamageAt P.File.TableHandle table.now index) }
     ensures port { ReadsAtMost P.Port 1 port.old port.new (result ≡ Err faults.Fault) }
     ensures sure { P.steady port.old → result ≡ Err faults.Fault → ⊥ }

@@ -1,7 +1,7 @@
 //! Cursors over sorted tables: one place among a table's entries, moved at the cost of one read at most.
 //!
-//! The layer above may use `TableCursor`, by the trait `Cursor`, over a table that it shares, a port and a loan, which it gets back in the
-//! end. It may not know how a block is read, checked and kept.
+//! The layer above may use `TableCursor`, by the trait `Cursor`, over a table that it shares, a port and a
+//! loan, which it gets back in the end. It may not know how a block is read, checked and kept.
 #![tactic(auto)]
 
 mod agreeing;

@@ -19,8 +19,8 @@ use disk_model::Port;
 use peb_base::{EntryRef, KeyBuf, Number, ReadFault};
 use table_file::{Table, law_blocks};
 
-/// The newest entry of a key at or below a number in the bytes of a block that was read, so many entries. Its key is put together
-/// in `key_out`.
+/// The newest entry of a key at or below a number in the bytes of a block that was read, so
+/// many entries. Its key is put together in `key_out`.
 pub fn look_in<'k>(
     bytes: &'k [u8],
     count: usize,
@@ -29,7 +29,8 @@ pub fn look_in<'k>(
     key_out: &'k mut KeyBuf,
 ) -> Option<EntryRef<'k>>
     requires { (es : List Entry) × IsBlock es bytes.now × (length es ≡ count) }
-    ensures { (es : List Entry) → IsBlock es bytes.now → option_map entry_of result ≡ newest_of key.now number es }
+    ensures { (es : List Entry) → IsBlock es bytes.now
+        → option_map entry_of result ≡ newest_of key.now number es }
 {
     one_block();
     let block = Block::again(bytes, count);
@@ -44,9 +45,11 @@ pub fn look_in<'k>(
     Some(entry)
 }
 
-/// The newest entry of a key at or below a number in a table, with one read at most, into a loan. It takes no memory.
+/// The newest entry of a key at or below a number in a table, with one read at
+/// most, into a loan. It takes no memory.
 ///
-/// `Damaged` comes only where no bytes of a block that agrees with the table's index and row stand at the place that it tells.
+/// `Damaged` comes only where no bytes of a block that agrees with the table's index
+/// and row stand at the place that it tells.
 pub fn look_up<'k, P: Port>(
     table: &Table<P::File>,
     port: &mut P,
@@ -60,7 +63,9 @@ pub fn look_up<'k, P: Port>(
         → Finds (newest_of key.now number es) result }
     ensures answers { IfOk result (λ found.
         IsLookedUp P.File.TableHandle table.now key.now number (option_map entry_of found)) }
-    ensures own { IfOk result (λ found. IfSome found (λ e. IsFound P.File.TableHandle table.now key.now number (entry_of e))) }
+    ensures own { IfOk result
+        (λ found. IfSome found
+        (λ e. IsFound P.File.TableHandle table.now key.now number (entry_of e))) }
     // when it fails
     ensures damage { IfDamage result
         (IsDamageAt P.File.TableHandle table.now (index_for key.now number table.now.items)) }

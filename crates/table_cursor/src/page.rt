@@ -19,7 +19,8 @@ use peb_base::{EntryRef, KeyBuf, Number, ReadFault};
 use std::marker::Model;
 use table_file::Table;
 
-/// A loan with the block that was read into it, and a place among the block's entries; contracts see what is read there.
+/// A loan with the block that was read into it, and a place among the block's
+/// entries; contracts see what is read there.
 pub struct Page {
     loan: Loan,
     at: u64,
@@ -40,7 +41,8 @@ impl Model for Page {
 
     ghost view = { λ page. reading page.at page.len page.count page.place page.loan };
 
-    ghost invariant = { λ page. IsPage page.len page.count page.place page.here page.loan page.key (entries_in page.count (take page.len page.loan)) };
+    ghost invariant = { λ page. IsPage page.len page.count page.place page.here page.loan page.key
+        (entries_in page.count (take page.len page.loan)) };
 }
 
 /// The block that the first bytes of a loan are.
@@ -117,7 +119,8 @@ impl Page {
 
     /// Reads the block at an index of a table, and goes to its first entry. An error leaves no block.
     ///
-    /// `Fault` comes only where the port failed, `Damaged` only where no bytes of a block that agrees with the table stand there.
+    /// `Fault` comes only where the port failed, `Damaged` only where no bytes of a
+    /// block that agrees with the table stand there.
     pub fn turn<P: Port>(
         &mut self,
         table: &Table<P::File>,
@@ -192,7 +195,8 @@ impl Page {
     /// Goes to the first entry at or behind this key and number, which the block has.
     pub fn seek(&mut self, key: &[u8], number: Number)
         requires { first_from key.now number self.old.entries < length self.old.entries }
-        ensures { self.new ≡ record self.old { place = first_from key.now number self.old.entries } }
+        ensures { self.new
+            ≡ record self.old { place = first_from key.now number self.old.entries } }
     {
         let block = block_in(&self.loan, self.len, self.count);
         let (place, here) = block.seek(key, number, &mut self.key);

@@ -35,16 +35,19 @@ pub struct TableCursor<P: Port> {
     /// The index of the block on the page.
     index: usize,
     refused: Option<ReadFault>,
-    ghost shown: { 0 < length page.entries → ShowsOf P.File.TableHandle (arc_value table) index page },
+    ghost shown: { 0 < length page.entries
+        → ShowsOf P.File.TableHandle (arc_value table) index page },
     ghost sorted: { AreSorted page.entries } by { AscendFrom-prop [] 0 page.entries },
 }
 
 impl<P: Port> TableCursor<P> {
     ghost use Rattle.table_cursor.specs.Views.{table_of, port_of, page_of, index_of, refused_of, shown_by, spot_of, StandsIn, Turns};
 
-    /// A cursor over the entries of a table, at no place. It makes no read yet, and no call of it takes memory.
+    /// A cursor over the entries of a table, at no place. It makes no read
+    /// yet, and no call of it takes memory.
     pub fn open(table: Arc<Table<P::File>, Global>, port: P, loan: Loan) -> TableCursor<P>
-        ensures stands { (es : List Entry) → IsTrue P.File.tells → Holds P.File.TableHandle (arc_value table) es → StandsIn result es None }
+        ensures stands { (es : List Entry) → IsTrue P.File.tells
+            → Holds P.File.TableHandle (arc_value table) es → StandsIn result es None }
         ensures table { table_of result ≡ arc_value table }
         ensures port { port_of result ≡ port }
         ensures nowhere { (spot_of result ≡ None) × (shown_by result ≡ None) }
@@ -60,11 +63,13 @@ impl<P: Port> TableCursor<P> {
         }
     }
 
-    /// The place in the file, in bytes, of the block that has the entry at which the cursor stands; None exactly at no place.
+    /// The place in the file, in bytes, of the block that has the entry at which the
+    /// cursor stands; None exactly at no place.
     pub fn place(&self) -> Option<u64>
         ensures none { IsNone result ↔ (spot_of self.now ≡ None) }
         ensures block { IfSome result (λ at. (at ≡ (page_of self.now).at)
-            × ShowsOf P.File.TableHandle (table_of self.now) (index_of self.now) (page_of self.now)) }
+            × ShowsOf P.File.TableHandle (table_of self.now) (index_of self.now)
+            (page_of self.now)) }
     {
         if self.page.is_empty() {
             return None;
@@ -100,10 +105,15 @@ impl<P: Port> TableCursor<P> {
         ensures fits { Fits result self.now.page }
         ensures turns { TurnsTo result (self.now.index + 1) }
         ensures stays { length self.now.page.entries ≡ 0 → result ≡ Step.Nowhere }
-        ensures leads { (es : List Entry) → (holds : Holds P.File.TableHandle (arc_value self.now.table) es) → (place : Option ℕ) → OnPage self.now.page self.now.index (blocks_of holds.full es) es place
+        ensures leads { (es : List Entry)
+            → (holds : Holds P.File.TableHandle (arc_value self.now.table) es) → (place : Option ℕ)
+            → OnPage self.now.page self.now.index (blocks_of holds.full es) es place
             → target result self.now.index (blocks_of holds.full es) ≡ next_place es place }
-        ensures lands { (now : Reading) → spot_after result (arc_value self.now.table).items self.now.index now ≡ next_spot (arc_value self.now.table).items self.now.index self.now.page }
-        ensures within { self.now.page.place + 1 < length self.now.page.entries → result ≡ Step.Within (self.now.page.place + 1) }
+        ensures lands { (now : Reading)
+            → spot_after result (arc_value self.now.table).items self.now.index now
+            ≡ next_spot (arc_value self.now.table).items self.now.index self.now.page }
+        ensures within { self.now.page.place + 1 < length self.now.page.entries
+            → result ≡ Step.Within (self.now.page.place + 1) }
     {
         if self.page.is_empty() {
             return Step::Nowhere;
@@ -124,10 +134,15 @@ impl<P: Port> TableCursor<P> {
         ensures fits { Fits result self.now.page }
         ensures turns { TurnsTo result (self.now.index - 1) }
         ensures stays { length self.now.page.entries ≡ 0 → result ≡ Step.Nowhere }
-        ensures leads { (es : List Entry) → (holds : Holds P.File.TableHandle (arc_value self.now.table) es) → (place : Option ℕ) → OnPage self.now.page self.now.index (blocks_of holds.full es) es place
+        ensures leads { (es : List Entry)
+            → (holds : Holds P.File.TableHandle (arc_value self.now.table) es) → (place : Option ℕ)
+            → OnPage self.now.page self.now.index (blocks_of holds.full es) es place
             → target result self.now.index (blocks_of holds.full es) ≡ previous_place place }
-        ensures lands { (now : Reading) → spot_after result (arc_value self.now.table).items self.now.index now ≡ previous_spot (arc_value self.now.table).items self.now.index self.now.page now }
-        ensures within { 0 < self.now.page.place → 0 < length self.now.page.entries → result ≡ Step.Within (self.now.page.place - 1) }
+        ensures lands { (now : Reading)
+            → spot_after result (arc_value self.now.table).items self.now.index now
+            ≡ previous_spot (arc_value self.now.table).items self.now.index self.now.page now }
+        ensures within { 0 < self.now.page.place → 0 < length self.now.page.entries
+            → result ≡ Step.Within (self.now.page.place - 1) }
     {
         if self.page.is_empty() {
             return Step::Nowhere;
@@ -146,9 +161,13 @@ impl<P: Port> TableCursor<P> {
     fn last_step(&self) -> Step
         ensures fits { Fits result self.now.page }
         ensures turns { TurnsTo result (length (arc_value self.now.table).items - 1) }
-        ensures leads { (es : List Entry) → (holds : Holds P.File.TableHandle (arc_value self.now.table) es)
+        ensures leads { (es : List Entry)
+            → (holds : Holds P.File.TableHandle (arc_value self.now.table) es)
             → target result self.now.index (blocks_of holds.full es) ≡ last_place es }
-        ensures lands { (now : Reading) → spot_after result (arc_value self.now.table).items self.now.index now ≡ last_spot (arc_value self.now.table).items (length (arc_value self.now.table).items - 1) now }
+        ensures lands { (now : Reading)
+            → spot_after result (arc_value self.now.table).items self.now.index now
+            ≡ last_spot (arc_value self.now.table).items
+            (length (arc_value self.now.table).items - 1) now }
     {
         law_blocks();
         Step::Last(self.table.blocks() - 1)
@@ -156,11 +175,17 @@ impl<P: Port> TableCursor<P> {
 
     /// Shows the first entry of the block at an index, or nothing where there is none.
     fn show(&mut self, index: usize) -> Result<(), ReadFault>
-        ensures leads { (es : List Entry) → (holds : Holds P.File.TableHandle (arc_value self.old.table) es)
-            → IsTrue P.File.tells → LeadsTo (OnPage self.new.page self.new.index (blocks_of holds.full es) es) (target (Step.First index) self.old.index (blocks_of holds.full es)) result }
+        ensures leads { (es : List Entry)
+            → (holds : Holds P.File.TableHandle (arc_value self.old.table) es)
+            → IsTrue P.File.tells
+            → LeadsTo (OnPage self.new.page self.new.index (blocks_of holds.full es) es)
+            (target (Step.First index) self.old.index (blocks_of holds.full es)) result }
         ensures index { self.new.index ≡ index }
-        ensures lands { OnOk result (spot self.new.index self.new.page ≡ first_spot (arc_value self.old.table).items index) }
-        ensures damage { IfDamage result (IsDamageAt P.File.TableHandle (arc_value self.old.table) index) }
+        ensures lands { OnOk result
+            (spot self.new.index self.new.page
+            ≡ first_spot (arc_value self.old.table).items index) }
+        ensures damage { IfDamage result
+            (IsDamageAt P.File.TableHandle (arc_value self.old.table) index) }
         ensures turns { Turns self.old self.new result }
     {
         law_blocks();
@@ -175,10 +200,16 @@ impl<P: Port> TableCursor<P> {
 
     /// Shows the last entry of the block at an index, or nothing where there is none.
     fn show_last(&mut self, index: usize) -> Result<(), ReadFault>
-        ensures leads { (es : List Entry) → (holds : Holds P.File.TableHandle (arc_value self.old.table) es)
-            → IsTrue P.File.tells → LeadsTo (OnPage self.new.page self.new.index (blocks_of holds.full es) es) (target (Step.Last index) self.old.index (blocks_of holds.full es)) result }
-        ensures lands { OnOk result (spot self.new.index self.new.page ≡ last_spot (arc_value self.old.table).items index self.new.page) }
-        ensures damage { IfDamage result (IsDamageAt P.File.TableHandle (arc_value self.old.table) index) }
+        ensures leads { (es : List Entry)
+            → (holds : Holds P.File.TableHandle (arc_value self.old.table) es)
+            → IsTrue P.File.tells
+            → LeadsTo (OnPage self.new.page self.new.index (blocks_of holds.full es) es)
+            (target (Step.Last index) self.old.index (blocks_of holds.full es)) result }
+        ensures lands { OnOk result
+            (spot self.new.index self.new.page
+            ≡ last_spot (arc_value self.old.table).items index self.new.page) }
+        ensures damage { IfDamage result
+            (IsDamageAt P.File.TableHandle (arc_value self.old.table) index) }
         ensures turns { Turns self.old self.new result }
     {
         match self.show(index) {
@@ -194,12 +225,19 @@ impl<P: Port> TableCursor<P> {
     /// Makes a step.
     fn go(&mut self, step: Step) -> Result<(), ReadFault>
         requires { Fits step self.old.page }
-        ensures stays { step ≡ Step.Nowhere → IsOk result × (self.new.page.entries ≡ []) × (self.new.port ≡ self.old.port) }
-        ensures lands { OnOk result (spot self.new.index self.new.page ≡ spot_after step (arc_value self.old.table).items self.old.index self.new.page) }
+        ensures stays { step ≡ Step.Nowhere → IsOk result × (self.new.page.entries ≡ [])
+            × (self.new.port ≡ self.old.port) }
+        ensures lands { OnOk result
+            (spot self.new.index self.new.page
+            ≡ spot_after step (arc_value self.old.table).items self.old.index self.new.page) }
         ensures within { (place : ℕ) → step ≡ Step.Within place →
             IsOk result × (self.new.page ≡ record self.old.page { place = place }) × (self.new.index ≡ self.old.index) × (self.new.port ≡ self.old.port) }
-        ensures leads { (es : List Entry) → (holds : Holds P.File.TableHandle (arc_value self.old.table) es) → (place : Option ℕ) → OnPage self.old.page self.old.index (blocks_of holds.full es) es place
-            → IsTrue P.File.tells → LeadsTo (OnPage self.new.page self.new.index (blocks_of holds.full es) es) (target step self.old.index (blocks_of holds.full es)) result }
+        ensures leads { (es : List Entry)
+            → (holds : Holds P.File.TableHandle (arc_value self.old.table) es) → (place : Option ℕ)
+            → OnPage self.old.page self.old.index (blocks_of holds.full es) es place
+            → IsTrue P.File.tells
+            → LeadsTo (OnPage self.new.page self.new.index (blocks_of holds.full es) es)
+            (target step self.old.index (blocks_of holds.full es)) result }
         ensures damage { (index : ℕ) → TurnsTo step index →
             IfDamage result (IsDamageAt P.File.TableHandle (arc_value self.old.table) index) }
         ensures turns { Turns self.old self.new result }
@@ -220,11 +258,16 @@ impl<P: Port> TableCursor<P> {
 
     /// Goes to the first entry at or behind this key and number, or to no place where all come before.
     fn go_to(&mut self, key: &[u8], number: Number) -> Result<(), ReadFault>
-        ensures leads { (es : List Entry) → (holds : Holds P.File.TableHandle (arc_value self.old.table) es)
-            → IsTrue P.File.tells → LeadsTo (OnPage self.new.page self.new.index (blocks_of holds.full es) es) (place_from key.now number es) result }
+        ensures leads { (es : List Entry)
+            → (holds : Holds P.File.TableHandle (arc_value self.old.table) es)
+            → IsTrue P.File.tells
+            → LeadsTo (OnPage self.new.page self.new.index (blocks_of holds.full es) es)
+            (place_from key.now number es) result }
         ensures behind { (e : Entry) → slice_get self.new.page.entries self.new.page.place ≡ Some e
             → comes_before e.key e.number key.now number ≡ false }
-        ensures lands { OnOk result (spot self.new.index self.new.page ≡ found_spot (arc_value self.old.table).items key.now number self.new.page) }
+        ensures lands { OnOk result
+            (spot self.new.index self.new.page
+            ≡ found_spot (arc_value self.old.table).items key.now number self.new.page) }
         ensures damage { IfDamage result (IsDamageAt P.File.TableHandle (arc_value self.old.table)
             (index_for key.now number (arc_value self.old.table).items)) }
         ensures turns { Turns self.old self.new result }
@@ -279,13 +322,17 @@ impl<P: Port> Cursor for TableCursor<P> {
 
     ghost refused = { λ cursor. refused_of cursor };
 
-    ghost among = { λ cursor es place stands. stands_among P.File.TableHandle (table_of cursor) (page_of cursor) (index_of cursor) es place stands (λ some. (cursor.shown some).inside) };
+    ghost among = { λ cursor es place stands. stands_among P.File.TableHandle (table_of cursor)
+        (page_of cursor) (index_of cursor) es place stands (λ some. (cursor.shown some).inside) };
 
-    ghost within = { λ cursor e there. entry_within [] 0 (page_of cursor).entries (page_of cursor).place e cursor.sorted there };
+    ghost within = { λ cursor e there. entry_within [] 0 (page_of cursor).entries
+        (page_of cursor).place e cursor.sorted there };
 
-    ghost ascends = { λ cursor es e walks there. walk_ascends P.File.TableHandle (table_of cursor) (index_of cursor) (page_of cursor) es e cursor.shown cursor.sorted walks there };
+    ghost ascends = { λ cursor es e walks there. walk_ascends P.File.TableHandle (table_of cursor)
+        (index_of cursor) (page_of cursor) es e cursor.shown cursor.sorted walks there };
 
-    ghost bounded = { λ cursor. steps_bounded P.File.TableHandle (table_of cursor) (index_of cursor) (page_of cursor) cursor.shown };
+    ghost bounded = { λ cursor. steps_bounded P.File.TableHandle (table_of cursor) (index_of cursor)
+        (page_of cursor) cursor.shown };
 
     ghost kept = { λ cursor. keeps_self cursor };
 
@@ -295,18 +342,24 @@ impl<P: Port> Cursor for TableCursor<P> {
 
     ghost kept_size = { λ a b x i. most_steps (length (arc_value (x.table i)).items) };
 
-    /// Goes to the first entry at or behind this key and number, or to no place where all come before, with one read at most.
+    /// Goes to the first entry at or behind this key and number, or to no place where
+    /// all come before, with one read at most.
     ///
-    /// `Damaged` comes only where no bytes of a block that agrees with the table's index and row stand at the place that it tells.
+    /// `Damaged` comes only where no bytes of a block that agrees with the table's index
+    /// and row stand at the place that it tells.
     fn seek(&mut self, key: &[u8], number: Number) -> Result<(), ReadFault>
         // what it gives
         ensures goes { (es : List Entry) (place : Option ℕ)
             → StandsIn self.old es place
             → LeadsTo (StandsIn self.new es) (place_from key.now number es) result }
-        ensures behind { (e : Entry) → shown_by self.new ≡ Some e → comes_before e.key e.number key.now number ≡ false }
-        ensures lands { OnOk result (spot_of self.new ≡ found_spot (table_of self.old).items key.now number (page_of self.new)) }
+        ensures behind { (e : Entry) → shown_by self.new ≡ Some e
+            → comes_before e.key e.number key.now number ≡ false }
+        ensures lands { OnOk result
+            (spot_of self.new
+            ≡ found_spot (table_of self.old).items key.now number (page_of self.new)) }
         // what it leaves
-        ensures moves { Moves self.old self.new (index_for key.now number (table_of self.old).items) result }
+        ensures moves { Moves self.old self.new
+            (index_for key.now number (table_of self.old).items) result }
     {
         let moved = self.go_to(key, number);
         self.refused = moved.err();
@@ -333,7 +386,9 @@ impl<P: Port> Cursor for TableCursor<P> {
         ensures goes { (es : List Entry) (place : Option ℕ)
             → StandsIn self.old es place
             → LeadsTo (StandsIn self.new es) (last_place es) result }
-        ensures lands { OnOk result (spot_of self.new ≡ last_spot (table_of self.old).items (blocks_in self.old - 1) (page_of self.new)) }
+        ensures lands { OnOk result
+            (spot_of self.new
+            ≡ last_spot (table_of self.old).items (blocks_in self.old - 1) (page_of self.new)) }
         // what it leaves
         ensures moves { Moves self.old self.new (blocks_in self.old - 1) result }
     {
@@ -349,14 +404,20 @@ impl<P: Port> Cursor for TableCursor<P> {
         ensures goes { (es : List Entry) (place : Option ℕ)
             → StandsIn self.old es place
             → LeadsTo (StandsIn self.new es) (next_place es place) result }
-        ensures lands { OnOk result (spot_of self.new ≡ next_spot (table_of self.old).items (index_of self.old) (page_of self.old)) }
-        ensures within { (page_of self.old).place + 1 < length (page_of self.old).entries → IsOk result × ((port_of self.new) ≡ (port_of self.old))
-            × ((page_of self.new) ≡ record (page_of self.old) { place = (page_of self.old).place + 1 }) }
+        ensures lands { OnOk result
+            (spot_of self.new
+            ≡ next_spot (table_of self.old).items (index_of self.old) (page_of self.old)) }
+        ensures within { (page_of self.old).place + 1 < length (page_of self.old).entries
+            → IsOk result × ((port_of self.new) ≡ (port_of self.old))
+            × ((page_of self.new)
+            ≡ record (page_of self.old) { place = (page_of self.old).place + 1 }) }
         ensures walks { OnOk result ((es : List Entry) (e : Entry) → shown_by self.old ≡ Some e
             → WalksIn self.old es
             → WalksIn self.new (es ++ e ∷ [])) }
-        ensures behind { (e f : Entry) → shown_by self.old ≡ Some e → shown_by self.new ≡ Some f → entry_lt e f ≡ true }
-        ensures fewer { (e : Entry) → shown_by self.old ≡ Some e → ahead_of self.new < ahead_of self.old }
+        ensures behind { (e f : Entry) → shown_by self.old ≡ Some e → shown_by self.new ≡ Some f
+            → entry_lt e f ≡ true }
+        ensures fewer { (e : Entry) → shown_by self.old ≡ Some e
+            → ahead_of self.new < ahead_of self.old }
         ensures stays { shown_by self.old ≡ None
             → IsOk result × (shown_by self.new ≡ None) }
         // what it leaves
@@ -375,12 +436,20 @@ impl<P: Port> Cursor for TableCursor<P> {
         ensures goes { (es : List Entry) (place : Option ℕ)
             → StandsIn self.old es place
             → LeadsTo (StandsIn self.new es) (previous_place place) result }
-        ensures lands { OnOk result (spot_of self.new ≡ previous_spot (table_of self.old).items (index_of self.old) (page_of self.old) (page_of self.new)) }
-        ensures within { 0 < (page_of self.old).place → 0 < length (page_of self.old).entries → IsOk result × ((port_of self.new) ≡ (port_of self.old))
-            × ((page_of self.new) ≡ record (page_of self.old) { place = (page_of self.old).place - 1 }) }
-        ensures falls { (e f : Entry) → shown_by self.old ≡ Some e → shown_by self.new ≡ Some f → entry_lt e f ≡ false }
-        ensures before { (e f : Entry) → shown_by self.old ≡ Some e → shown_by self.new ≡ Some f → entry_lt f e ≡ true }
-        ensures fewer { (e : Entry) → shown_by self.old ≡ Some e → back_of self.new < back_of self.old }
+        ensures lands { OnOk result
+            (spot_of self.new
+            ≡ previous_spot (table_of self.old).items (index_of self.old) (page_of self.old)
+            (page_of self.new)) }
+        ensures within { 0 < (page_of self.old).place → 0 < length (page_of self.old).entries
+            → IsOk result × ((port_of self.new) ≡ (port_of self.old))
+            × ((page_of self.new)
+            ≡ record (page_of self.old) { place = (page_of self.old).place - 1 }) }
+        ensures falls { (e f : Entry) → shown_by self.old ≡ Some e → shown_by self.new ≡ Some f
+            → entry_lt e f ≡ false }
+        ensures before { (e f : Entry) → shown_by self.old ≡ Some e → shown_by self.new ≡ Some f
+            → entry_lt f e ≡ true }
+        ensures fewer { (e : Entry) → shown_by self.old ≡ Some e
+            → back_of self.new < back_of self.old }
         ensures stays { shown_by self.old ≡ None
             → IsOk result × (shown_by self.new ≡ None) }
         // what it leaves
@@ -393,8 +462,8 @@ impl<P: Port> Cursor for TableCursor<P> {
         moved
     }
 
-    /// Lends the entry at its place; None exactly at no place. The entry is one of a block that agrees with the table's index and
-    /// row, and whose bytes stand in the table's file.
+    /// Lends the entry at its place; None exactly at no place. The entry is one of a block that agrees with
+    /// the table's index and row, and whose bytes stand in the table's file.
     fn at(&self) -> Option<EntryRef<'_>>
         ensures lent { option_map entry_of result ≡ shown_by self.now }
         ensures agrees { IfSome result (λ entry. IsOfTable self.now (entry_of entry)) }

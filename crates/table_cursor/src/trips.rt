@@ -120,7 +120,8 @@ fn walk<P: Port>(alloc: Global, cursor: &mut TableCursor<P>) -> Result<List<Entr
     ensures undamaged { (es : List Entry) (place : Option ℕ) → StandsIn cursor.old es place →
         IfErr result (λ why. TellsDamage why → ⊥) }
     ensures damaged { IfErr result (TellsTable (table_of cursor.old).row.number) }
-    ensures unlimited { IfErr result (λ why. (full : ℕ) (es : List Entry) → LimitsTrip full es why) }
+    ensures unlimited { IfErr result
+        (λ why. (full : ℕ) (es : List Entry) → LimitsTrip full es why) }
     ensures later { P.faults (port_of cursor.old) ≤ P.faults (port_of cursor.new) }
     ensures cause { result ≡ Err Fault →
         Rose (P.faults (port_of cursor.old)) (P.faults (port_of cursor.new)) }
@@ -155,10 +156,12 @@ fn walk_table<P: Port>(
         IfOk result.1 (λ seen. seen ≡ es) }
     ensures spans { IfOk result.1 (λ seen. SpansRow table.row seen) }
     // when it fails
-    ensures undamaged { (es : List Entry) → IsTrue P.File.tells → Holds P.File.TableHandle table es →
+    ensures undamaged { (es : List Entry) → IsTrue P.File.tells
+        → Holds P.File.TableHandle table es →
         IfErr result.1 (λ why. TellsDamage why → ⊥) }
     ensures damaged { IfErr result.1 (TellsTable table.row.number) }
-    ensures unlimited { IfErr result.1 (λ why. (full : ℕ) (es : List Entry) → LimitsTrip full es why) }
+    ensures unlimited { IfErr result.1
+        (λ why. (full : ℕ) (es : List Entry) → LimitsTrip full es why) }
     ensures later { P.faults port ≤ P.faults result.0 }
     ensures cause { result.1 ≡ Err Fault → Rose (P.faults port) (P.faults result.0) }
 {
@@ -188,11 +191,13 @@ fn walk_row<P: Port>(alloc: Global, port: P, row: TableRow) -> (P, Result<List<E
         bytes ≡ table_bytes full row.number es) → IfOk result.1 (λ seen. seen ≡ es) }
     ensures spans { IfOk result.1 (λ seen. SpansRow row seen) }
     // when it fails
-    ensures undamaged { (full : ℕ) (es : List Entry) → IsTrue P.File.tells → IsRowWritten row full es →
+    ensures undamaged { (full : ℕ) (es : List Entry) → IsTrue P.File.tells
+        → IsRowWritten row full es →
         (P.table_files port).sealed row.number ≡ Some (table_bytes full row.number es) →
         IfErr result.1 (λ why. TellsDamage why → ⊥) }
     ensures damaged { IfErr result.1 (TellsTable row.number) }
-    ensures unlimited { IfErr result.1 (λ why. (full : ℕ) (es : List Entry) → LimitsTrip full es why) }
+    ensures unlimited { IfErr result.1
+        (λ why. (full : ℕ) (es : List Entry) → LimitsTrip full es why) }
     ensures later { P.faults port ≤ P.faults result.0 }
     ensures cause { result.1 ≡ Err Fault → Rose (P.faults port) (P.faults result.0) }
 {
@@ -275,7 +280,8 @@ fn written<D: Devices>(
     // what it leaves
     ensures kept { OnOk result (IsTrue D.F.tells → (D.tables_told devices.new).kept number
         ≡ Some (table_bytes options.now.block_bytes number entries.now)) }
-    ensures there { OnOk result (IsTrue D.F.tells → StaysOrGoes (D.tables_told devices.old).tally.gone number
+    ensures there { OnOk result
+        (IsTrue D.F.tells → StaysOrGoes (D.tables_told devices.old).tally.gone number
         (Some (table_bytes options.now.block_bytes number entries.now))
         ((D.tables_told devices.new).files.sealed number)) }
     ensures others { IsTrue D.F.tells → (n : ℕ) → (n ≡ number → ⊥) →
@@ -283,7 +289,8 @@ fn written<D: Devices>(
     // when it fails
     ensures limit { IfErr result (LimitsTrip options.now.block_bytes entries.now) }
     ensures undamaged { IfErr result (λ why. TellsDamage why → ⊥) }
-    ensures later { min (D.tables_told devices.old).faults (2 ^ 64 - 1) ≤ (D.tables_told devices.new).faults }
+    ensures later { min (D.tables_told devices.old).faults (2 ^ 64 - 1)
+        ≤ (D.tables_told devices.new).faults }
     ensures cause { result ≡ Err Fault →
         Rose (D.tables_told devices.old).faults (D.tables_told devices.new).faults }
     // what stays
@@ -314,7 +321,8 @@ fn walked<D: Devices>(
         (D.tables_told devices.old).files.sealed row.number ≡ Some (table_bytes full row.number es) →
         IfErr result (λ why. TellsDamage why → ⊥) }
     ensures damaged { IfErr result (TellsTable row.number) }
-    ensures unlimited { IfErr result (λ why. (full : ℕ) (es : List Entry) → LimitsTrip full es why) }
+    ensures unlimited { IfErr result
+        (λ why. (full : ℕ) (es : List Entry) → LimitsTrip full es why) }
     ensures cause { result ≡ Err Fault →
         Rose (D.tables_told devices.old).faults (D.tables_told devices.new).faults }
     // what stays
@@ -330,11 +338,12 @@ fn walked<D: Devices>(
     seen
 }
 
-/// Writes the table of these entries, which ascend, opens it again from its file by its row, and gives what a walk from its
-/// first entry to its end shows.
+/// Writes the table of these entries, which ascend, opens it again from its file by its row, and gives
+/// what a walk from its first entry to its end shows.
 ///
-/// `Fault` comes only where the devices' count of faults of tables rose, `Limit` only where a table of the entries would pass
-/// the limit, and `Damaged` never over devices that tell their bytes and took no table of the number away.
+/// `Fault` comes only where the devices' count of faults of tables rose, `Limit` only where a
+/// table of the entries would pass the limit, and `Damaged` never over devices that tell
+/// their bytes and took no table of the number away.
 pub fn round_trip<D: Devices>(
     alloc: Global,
     devices: &mut D,

@@ -18,7 +18,9 @@ pub record Cut : Type 0 where
 -- a block is closed as soon as it is full
 abbrev pub closed_at : ℕ → List (List Entry) → List Entry → Cut
 closed_at full closed begun =
-    if nat_le full (length (block_bytes begun)) then record { closed = closed ++ begun ∷ []; begun = [] } else record { closed = closed; begun = begun }
+    if nat_le full (length (block_bytes begun))
+    then record { closed = closed ++ begun ∷ []; begun = [] }
+    else record { closed = closed; begun = begun }
 
 -- one entry more
 abbrev pub cut_on : ℕ → Cut → Entry → Cut
@@ -49,16 +51,26 @@ last_number (e ∷ f ∷ es) = last_number (f ∷ es)
 
 -- what the index keeps of a block at this place
 abbrev pub item_of : ℕ → List Entry → IndexItem
-item_of place es = record { place = place; len = length (block_bytes es); key = last_key es; number = last_number es }
+item_of place es =
+    record {
+      place = place;
+      len = length (block_bytes es);
+      key = last_key es;
+      number =
+          last_number es;
+    }
 
 -- the items of blocks, of which the first is at this place
 abbrev pub items_from : ℕ → List (List Entry) → List IndexItem
 items_from place [] = []
-items_from place (es ∷ blocks) = item_of place es ∷ items_from (place + length (block_bytes es)) blocks
+items_from place (es ∷ blocks) =
+    item_of place es ∷ items_from (place + length (block_bytes es)) blocks
 
 -- an item: place, length, the last key behind its length, the last number
 unfoldable pub item_bytes : IndexItem → List ℕ
-item_bytes item = big_bytes 8 item.place ++ (big_bytes 4 item.len ++ (big_bytes 2 (length item.key) ++ (item.key ++ big_bytes 8 item.number)))
+item_bytes item = big_bytes 8 item.place
+    ++ (big_bytes 4 item.len
+    ++ (big_bytes 2 (length item.key) ++ (item.key ++ big_bytes 8 item.number)))
 
 -- the index: the number of items, and they
 abbrev pub index_bytes : List IndexItem → List ℕ
@@ -72,10 +84,15 @@ key_filter es = filter_of (length es) (map (λ e. mixed e.key) es)
 abbrev pub magic : List ℕ
 magic = 70 ∷ 76 ∷ 83 ∷ 77 ∷ 84 ∷ 65 ∷ 66 ∷ 49 ∷ []
 
--- the footer: the table's number, where the index and the filter stand, the number of entries, and the magic bytes
+-- the footer: the table's number, where the index and the filter stand, the
+-- number of entries, and the magic bytes
 unfoldable pub footer_bytes : Footer → List ℕ
 footer_bytes f =
-    big_bytes 8 f.number ++ (big_bytes 8 f.index ++ (big_bytes 4 f.index_len ++ (big_bytes 8 f.filter ++ (big_bytes 4 f.filter_len ++ (big_bytes 8 f.entries ++ magic)))))
+    big_bytes 8 f.number
+    ++ (big_bytes 8 f.index
+    ++ (big_bytes 4 f.index_len
+    ++ (big_bytes 8 f.filter
+    ++ (big_bytes 4 f.filter_len ++ (big_bytes 8 f.entries ++ magic)))))
 
 -- the table of this number with these entries in these blocks
 unfoldable pub blocks_table : ℕ → List (List Entry) → List Entry → List ℕ

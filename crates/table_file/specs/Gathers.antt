@@ -10,8 +10,10 @@ use Rattle.table_file.specs.Sums.{Sums}
 use Rattle.table_file.specs.declared.index.Index.{Index}
 use Rattle.table_file.specs.declared.summary.Summary.{Summary}
 
--- the index is that of the blocks, whose last entries ascend, and the hashes and sums are those of the entries
-pub record Gathers (index : Index) (hashes : List ℕ) (summary : Summary) (blocks : List (List Entry)) (es : List Entry) : Type 0 where
+-- the index is that of the blocks, whose last entries ascend, and the
+-- hashes and sums are those of the entries
+pub record Gathers (index : Index) (hashes : List ℕ) (summary : Summary)
+    (blocks : List (List Entry)) (es : List Entry) : Type 0 where
   pub sorted : AreSorted es
   pub some : 0 < length es
   pub few : length es ≤ 1717986918

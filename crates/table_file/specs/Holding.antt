@@ -10,10 +10,13 @@ use Rattle.table_file.specs.Tables.{TableParts, IsTableOf, Holds}
 
 -- a table that was written holds the entries that were pushed
 abbrev pub WrittenHolds : {F : Type 0} → Ghosts F → Type 0
-WrittenHolds {F} g = (t : TableParts F) (full : ℕ) (es : List Entry) → 5 < full → full ≤ 4096 → IsTableOf g t (blocks_of full es) es → Holds g t es
+WrittenHolds {F} g = (t : TableParts F) (full : ℕ) (es : List Entry) → 5 < full → full ≤ 4096
+    → IsTableOf g t (blocks_of full es) es → Holds g t es
 
--- the row is that of the table of these entries, whose blocks are full at this length, and the table's handle has its number and its bytes
-pub record IsOpenedOver {F : Type 0} (g : Ghosts F) (t : TableParts F) (full : ℕ) (es : List Entry) : Type 0 where
+-- the row is that of the table of these entries, whose blocks are full at this length, and
+-- the table's handle has its number and its bytes
+pub record IsOpenedOver {F : Type 0} (g : Ghosts F) (t : TableParts F) (full : ℕ)
+    (es : List Entry) : Type 0 where
   pub least : 5 < full
   pub most : full ≤ 4096
   pub sorted : AreSorted es
@@ -26,4 +29,5 @@ pub record IsOpenedOver {F : Type 0} (g : Ghosts F) (t : TableParts F) (full : �
 
 -- a table that is opened over the bytes of entries holds them
 abbrev pub OpenedHolds : {F : Type 0} → Ghosts F → Type 0
-OpenedHolds {F} g = (t : TableParts F) (full : ℕ) (es : List Entry) → IsOpenedOver g t full es → Holds g t es
+OpenedHolds {F} g =
+    (t : TableParts F) (full : ℕ) (es : List Entry) → IsOpenedOver g t full es → Holds g t es

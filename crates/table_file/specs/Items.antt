@@ -7,7 +7,8 @@ use Rattle.table_file.specs.declared.index_item.IndexItem.{IndexItem}
 -- the last entries of the blocks ascend strictly in entry order, all behind this key and number
 abbrev pub ascend_from : Bytes → ℕ → List IndexItem → Bool
 ascend_from before above [] = true
-ascend_from before above (item ∷ items) = comes_before before above item.key item.number && ascend_from item.key item.number items
+ascend_from before above (item ∷ items) =
+    comes_before before above item.key item.number && ascend_from item.key item.number items
 
 -- the last entries of the blocks ascend strictly
 abbrev pub ascend : List IndexItem → Bool
@@ -25,9 +26,11 @@ ends_before key number item = comes_before item.key item.number key number
 -- the index of the first block that doesn't end before this key and number, or the number of blocks
 abbrev pub index_for : Bytes → ℕ → List IndexItem → ℕ
 index_for key number [] = 0
-index_for key number (item ∷ items) = if ends_before key number item then suc (index_for key number items) else 0
+index_for key number (item ∷ items) =
+    if ends_before key number item then suc (index_for key number items) else 0
 
 -- the place and the length of the first block that doesn't end before this key and number
 abbrev pub block_for : Bytes → ℕ → List IndexItem → Option (ℕ × ℕ)
 block_for key number [] = None
-block_for key number (item ∷ items) = if comes_before item.key item.number key number then block_for key number items else Some (item.place, item.len)
+block_for key number (item ∷ items) = if comes_before item.key item.number key number
+    then block_for key number items else Some (item.place, item.len)

@@ -17,7 +17,8 @@ blocks_fault blocks = index_fault (length (index_bytes (items_from 0 blocks)))
 -- a table of these entries can't take this one
 abbrev pub push_fault : ℕ → List Entry → Entry → Option PutFault
 push_fault full es e =
-    if nat_le 1717986918 (length es) then Some (Limit kinds.Entries 1717986918) else blocks_fault (cut_of full (es ++ e ∷ [])).closed
+    if nat_le 1717986918 (length es) then Some (Limit kinds.Entries 1717986918)
+    else blocks_fault (cut_of full (es ++ e ∷ [])).closed
 
 -- that limit is answered exactly where it would be passed; want of memory may come in any case
 abbrev pub IsRefused : {T : Type 0} → Option PutFault → Result T PutFault → Type 0

@@ -17,10 +17,12 @@ pub record IsItem (place : ℕ) (before : Bytes) (above : ℕ) (item : IndexItem
   pub number : item.number < 2 ^ 63
   pub after : comes_before before above item.key item.number ≡ true
 
--- items of blocks that follow each other from this place up to this end, and whose last entries ascend, all after this key and number
+-- items of blocks that follow each other from this place up to this end, and whose last
+-- entries ascend, all after this key and number
 abbrev pub AreItems : ℕ → Bytes → ℕ → ℕ → List IndexItem → Type 0
 AreItems place before above end [] = place ≡ end
-AreItems place before above end (item ∷ items) = IsItem place before above item × AreItems (place + item.len) item.key item.number end items
+AreItems place before above end (item ∷ items) =
+    IsItem place before above item × AreItems (place + item.len) item.key item.number end items
 
 -- an index of a block at least, in which the blocks end here
 pub record IsIndex (end : ℕ) (items : List IndexItem) : Type 0 where
@@ -28,7 +30,8 @@ pub record IsIndex (end : ℕ) (items : List IndexItem) : Type 0 where
   pub each : AreItems 0 [] 0 end items
   pub short : length (index_bytes items) ≤ 2147483648
 
--- a footer that agrees with the row: the parts follow each other, and the filter is as long as the count of entries asks
+-- a footer that agrees with the row: the parts follow each other, and the filter
+-- is as long as the count of entries asks
 pub record IsFooterOf (row : TableRow) (footer : Footer) : Type 0 where
   pub number : footer.number ≡ row.number
   pub entries : footer.entries ≡ row.entries
@@ -39,7 +42,8 @@ pub record IsFooterOf (row : TableRow) (footer : Footer) : Type 0 where
   pub end : footer.filter + footer.filter_len + 48 ≡ row.bytes
 
 -- the bytes are blocks, the index of these items, this filter and their footer, and agree with the row
-pub record OpensAs (row : TableRow) (items : List IndexItem) (filter : List ℕ) (bytes : List ℕ) : Type 0 where
+pub record OpensAs (row : TableRow) (items : List IndexItem) (filter : List ℕ)
+    (bytes : List ℕ) : Type 0 where
   pub body : List ℕ
   pub footer : Footer
   pub spelled : bytes ≡ body ++ (index_bytes items ++ (filter ++ footer_bytes footer))
@@ -51,4 +55,5 @@ pub record OpensAs (row : TableRow) (items : List IndexItem) (filter : List ℕ)
 
 -- no index and filter make the bytes a table of the row
 abbrev pub IsNoTable : TableRow → List ℕ → Type 0
-IsNoTable row bytes = (items : List IndexItem) (filter : List ℕ) → OpensAs row items filter bytes → ⊥
+IsNoTable row bytes =
+    (items : List IndexItem) (filter : List ℕ) → OpensAs row items filter bytes → ⊥

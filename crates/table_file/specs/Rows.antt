@@ -33,11 +33,13 @@ unfolding blocks_table item_bytes footer_bytes bytes_of number_of is_probe block
 length_167 = refl
 
 -- the index of the table of one put
-index_1 : take 27 (drop 28 (table_bytes 256 1099511627777 (put 97 1099511627777 ∷ []))) ≡ 0 ∷ 0 ∷ 0 ∷ 1 ∷ 0 ∷ 0 ∷ 0 ∷ 0 ∷ 0 ∷ 0 ∷ 0 ∷ 0 ∷ 0 ∷ 0 ∷ 0 ∷ 28 ∷ 0 ∷ 1 ∷ 97 ∷ 0 ∷ 0 ∷ 1 ∷ 0 ∷ 0 ∷ 0 ∷ 0 ∷ 1 ∷ []
+index_1 : take 27 (drop 28 (table_bytes 256 1099511627777 (put 97 1099511627777 ∷ [])))
+    ≡ 0 ∷ 0 ∷ 0 ∷ 1 ∷ 0 ∷ 0 ∷ 0 ∷ 0 ∷ 0 ∷ 0 ∷ 0 ∷ 0 ∷ 0 ∷ 0 ∷ 0 ∷ 28 ∷ 0 ∷ 1 ∷ 97 ∷ 0 ∷ 0 ∷ 1 ∷ 0 ∷ 0 ∷ 0 ∷ 0 ∷ 1 ∷ []
 unfolding blocks_table item_bytes footer_bytes bytes_of number_of is_probe block_bytes entries_bytes restarts entry_bytes parts_bytes head_bytes mixed
 index_1 = refl
 
 -- its footer
-footer_1 : drop 63 (table_bytes 256 1099511627777 (put 97 1099511627777 ∷ [])) ≡ 0 ∷ 0 ∷ 1 ∷ 0 ∷ 0 ∷ 0 ∷ 0 ∷ 1 ∷ 0 ∷ 0 ∷ 0 ∷ 0 ∷ 0 ∷ 0 ∷ 0 ∷ 28 ∷ 0 ∷ 0 ∷ 0 ∷ 27 ∷ 0 ∷ 0 ∷ 0 ∷ 0 ∷ 0 ∷ 0 ∷ 0 ∷ 55 ∷ 0 ∷ 0 ∷ 0 ∷ 8 ∷ 0 ∷ 0 ∷ 0 ∷ 0 ∷ 0 ∷ 0 ∷ 0 ∷ 1 ∷ 70 ∷ 76 ∷ 83 ∷ 77 ∷ 84 ∷ 65 ∷ 66 ∷ 49 ∷ []
+footer_1 : drop 63 (table_bytes 256 1099511627777 (put 97 1099511627777 ∷ []))
+    ≡ 0 ∷ 0 ∷ 1 ∷ 0 ∷ 0 ∷ 0 ∷ 0 ∷ 1 ∷ 0 ∷ 0 ∷ 0 ∷ 0 ∷ 0 ∷ 0 ∷ 0 ∷ 28 ∷ 0 ∷ 0 ∷ 0 ∷ 27 ∷ 0 ∷ 0 ∷ 0 ∷ 0 ∷ 0 ∷ 0 ∷ 0 ∷ 55 ∷ 0 ∷ 0 ∷ 0 ∷ 8 ∷ 0 ∷ 0 ∷ 0 ∷ 0 ∷ 0 ∷ 0 ∷ 0 ∷ 1 ∷ 70 ∷ 76 ∷ 83 ∷ 77 ∷ 84 ∷ 65 ∷ 66 ∷ 49 ∷ []
 unfolding blocks_table item_bytes footer_bytes bytes_of number_of is_probe block_bytes entries_bytes restarts entry_bytes parts_bytes head_bytes mixed
 footer_1 = refl

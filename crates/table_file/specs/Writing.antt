@@ -16,8 +16,11 @@ use Rattle.table_file.specs.declared.table_writer.TableWriter.{TableWriter}
 abbrev pub block_length : TableWriter → ℕ
 block_length w = w.builder.full
 
--- the entries are those of the closed blocks and of the begun one; the maker has begun this number, and the closed blocks, where it tells them, are what was written
-pub record Keeps (tells : Bool) (begun : Option ℕ) (written : List ℕ) (number : ℕ) (open_block : List Entry) (index : Index) (hashes : List ℕ) (summary : Summary) (cut : Cut) (es : List Entry) : Type 0 where
+-- the entries are those of the closed blocks and of the begun one; the maker has begun this number, and the
+-- closed blocks, where it tells them, are what was written
+pub record Keeps (tells : Bool) (begun : Option ℕ) (written : List ℕ) (number : ℕ)
+    (open_block : List Entry) (index : Index) (hashes : List ℕ) (summary : Summary) (cut : Cut)
+    (es : List Entry) : Type 0 where
   pub sorted : AreSorted es
   pub whole : es ≡ flat_map (λ block. block) cut.closed ++ cut.begun
   pub few : length es ≤ 1717986918
@@ -29,6 +32,8 @@ pub record Keeps (tells : Bool) (begun : Option ℕ) (written : List ℕ) (numbe
   pub sums : Sums summary es
 
 -- these entries were pushed since the writer's start, and the maker is as the writer left it
-pub record HasPushed (tells : Bool) (begun : Option ℕ) (written : List ℕ) (w : TableWriter) (es : List Entry) : Type 0 where
-  pub keeps : Keeps tells begun written w.number w.builder.entries w.index w.hashes.items w.summary (cut_of w.builder.full es) es
+pub record HasPushed (tells : Bool) (begun : Option ℕ) (written : List ℕ) (w : TableWriter)
+    (es : List Entry) : Type 0 where
+  pub keeps : Keeps tells begun written w.number w.builder.entries w.index w.hashes.items w.summary
+      (cut_of w.builder.full es) es
   pub room : length (block_bytes (cut_of w.builder.full es).begun) < w.builder.full

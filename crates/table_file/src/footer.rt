@@ -47,7 +47,8 @@ pub fn footer_for(row: &TableRow, bytes: &[u8]) -> Option<Footer>
     requires { length bytes.now ≡ 48 }
     ensures agrees { IfSome result (λ footer. IsFooterOf row.now footer) }
     ensures spelled { IfSome result (λ footer. bytes.now ≡ footer_bytes footer) }
-    ensures none { IfNone result ((footer : Footer) → IsFooterOf row.now footer → bytes.now ≢ footer_bytes footer) }
+    ensures none { IfNone result
+        ((footer : Footer) → IsFooterOf row.now footer → bytes.now ≢ footer_bytes footer) }
 {
     if row.entries > 1_717_986_918 {
         return None;

@@ -56,8 +56,12 @@ impl Index {
         requires some { 0 < length key.now }
         requires short { length key.now ≤ 1024 }
         requires len { len ≤ 40960 }
-        ensures added { OnOk result ((blocks : List (List Entry)) (es : List Entry) → Indexes self.old blocks → len ≡ length (block_bytes es) → key.now ≡ last_key es → number ≡ last_number es → Indexes self.new (blocks ++ es ∷ [])) }
-        ensures refused { Refuses Memory (index_fault (self.old.bytes + 22 + length key.now)) result }
+        ensures added { OnOk result
+            ((blocks : List (List Entry)) (es : List Entry) → Indexes self.old blocks
+            → len ≡ length (block_bytes es) → key.now ≡ last_key es → number ≡ last_number es
+            → Indexes self.new (blocks ++ es ∷ [])) }
+        ensures refused { Refuses Memory
+            (index_fault (self.old.bytes + 22 + length key.now)) result }
     {
         let bytes = self.bytes + 22 + key.len() as u64;
         if bytes > MOST_BYTES {

@@ -12,12 +12,28 @@ use byteorder::{BigEndian, ByteOrder};
 use peb_base::{Key, KeyBuf, Number, is_before};
 use std::alloc::Global;
 
-/// Whether these are an item of a block at this place, which ends here at the latest and comes after this key and number.
+/// Whether these are an item of a block at this place, which ends here at the
+/// latest and comes after this key and number.
 fn is_item(place: u64, end: u64, before: &[u8], above: u64, fields: &ItemFields<'_>) -> bool
     requires { place ≤ end }
-    ensures item { IsTrue result → IsItem place before.now above (record { place = fields.now.place; len = fields.now.len; key = fields.now.key.now; number = fields.now.number }) }
+    ensures item { IsTrue result
+        → IsItem place before.now above
+        (record {
+          place = fields.now.place;
+          len = fields.now.len;
+          key = fields.now.key.now;
+          number =
+              fields.now.number;
+        }) }
     ensures fits { IsTrue result → place + fields.now.len ≤ end }
-    ensures none { IsItem place before.now above (record { place = fields.now.place; len = fields.now.len; key = fields.now.key.now; number = fields.now.number }) → place + fields.now.len ≤ end → IsTrue result }
+    ensures none { IsItem place before.now above
+        (record {
+          place = fields.now.place;
+          len = fields.now.len;
+          key = fields.now.key.now;
+          number =
+              fields.now.number;
+        }) → place + fields.now.len ≤ end → IsTrue result }
 {
     if fields.place != place {
         return false;
@@ -38,7 +54,15 @@ fn item_with(alloc: Global, fields: &ItemFields<'_>) -> Result<IndexItem, IndexF
     requires some { 0 < length fields.now.key.now }
     requires short { length fields.now.key.now ≤ 1024 }
     requires number { fields.now.number < 2 ^ 63 }
-    ensures item { IfOk result (λ item. item ≡ record { place = fields.now.place; len = fields.now.len; key = fields.now.key.now; number = fields.now.number }) }
+    ensures item { IfOk result
+        (λ item. item
+        ≡ record {
+          place = fields.now.place;
+          len = fields.now.len;
+          key =
+              fields.now.key.now;
+          number = fields.now.number;
+        }) }
     ensures memory { IfErr result (λ why. why ≡ IndexFault.Memory) }
 {
     let key = Key::new(alloc, fields.key).map_err(|_| IndexFault::Memory)?;
@@ -55,7 +79,8 @@ pub fn items_of(alloc: Global, bytes: &[u8], end: u64) -> Result<Vec<IndexItem>,
     requires { length bytes.now ≤ 2147483648 }
     ensures index { IfOk result (λ items. IsIndex end items.items) }
     ensures spelled { IfOk result (λ items. bytes.now ≡ index_bytes items.items) }
-    ensures form { IsErrOf result IndexFault.Form → (items : List IndexItem) → IsIndex end items → bytes.now ≢ index_bytes items }
+    ensures form { IsErrOf result IndexFault.Form → (items : List IndexItem) → IsIndex end items
+        → bytes.now ≢ index_bytes items }
 {
     if bytes.len() < 4 {
         return Err(IndexFault::Form);

@@ -19,9 +19,16 @@ pub struct ItemFields<'a> {
 
 /// The item at the front.
 pub fn item_at(bytes: &[u8]) -> Option<ItemFields<'_>>
-    ensures found { IfSome result (λ f. bytes.now ≡ item_bytes (record { place = f.place; len = f.len; key = f.key.now; number = f.number }) ++ f.behind.now) }
-    ensures fits { IfSome result (λ f. (f.place < 2 ^ 64) × (f.len < 2 ^ 32) × (length f.key.now < 2 ^ 16) × (f.number < 2 ^ 64)) }
-    ensures none { IfNone result ((item : IndexItem) (rest : List ℕ) → length item.key < 2 ^ 16 → bytes.now ≢ item_bytes item ++ rest) }
+    ensures found { IfSome result
+        (λ f. bytes.now
+        ≡ item_bytes (record { place = f.place; len = f.len; key = f.key.now; number = f.number })
+        ++ f.behind.now) }
+    ensures fits { IfSome result
+        (λ f. (f.place < 2 ^ 64) × (f.len < 2 ^ 32) × (length f.key.now < 2 ^ 16)
+        × (f.number < 2 ^ 64)) }
+    ensures none { IfNone result
+        ((item : IndexItem) (rest : List ℕ) → length item.key < 2 ^ 16 → bytes.now ≢ item_bytes item
+        ++ rest) }
 {
     if bytes.len() < 22 {
         return None;

@@ -20,37 +20,51 @@ use disk_model::TableHandle;
 
 /// Bytes are a table of a row with one index and one filter at most.
 pub fn one_opening()
-    ensures { (row : TableRow) (a b : List IndexItem) (f g bytes : List ℕ) → row.bytes < 2 ^ 64 → OpensAs row a f bytes → OpensAs row b g bytes → (a ≡ b) × (f ≡ g) }
+    ensures { (row : TableRow) (a b : List IndexItem) (f g bytes : List ℕ) → row.bytes < 2 ^ 64
+        → OpensAs row a f bytes → OpensAs row b g bytes → (a ≡ b) × (f ≡ g) }
 {}
 
-/// The bytes of a table's entries, in a profile whose blocks are full at most at 4096 bytes, open by the table's row as the
-/// table that was written: with its index and its filter.
+/// The bytes of a table's entries, in a profile whose blocks are full at most at 4096 bytes, open by the
+/// table's row as the table that was written: with its index and its filter.
 pub fn written_opens()
-    ensures { (row : TableRow) (full number : ℕ) (es : List Entry) → 5 < full → full ≤ 4096 → AreSorted es → 0 < length es → length es ≤ 1717986918 → length (index_bytes (items_from 0 (blocks_of full es))) ≤ 2147483648 → row.number ≡ number → row.entries ≡ length es → row.bytes ≡ length (table_bytes full number es) → OpensAs row (items_from 0 (blocks_of full es)) (key_filter es) (table_bytes full number es) }
+    ensures { (row : TableRow) (full number : ℕ) (es : List Entry) → 5 < full → full ≤ 4096
+        → AreSorted es → 0 < length es → length es ≤ 1717986918
+        → length (index_bytes (items_from 0 (blocks_of full es))) ≤ 2147483648 → row.number ≡ number
+        → row.entries ≡ length es → row.bytes ≡ length (table_bytes full number es)
+        → OpensAs row (items_from 0 (blocks_of full es)) (key_filter es)
+        (table_bytes full number es) }
 {
     block_grows();
     law_filter();
 }
 
-/// The bytes of a table's entries open by the table's row with no other index and no other filter than the written ones.
+/// The bytes of a table's entries open by the table's row with no other index
+/// and no other filter than the written ones.
 pub fn opens_as_written()
-    ensures { (row : TableRow) (full : ℕ) (es : List Entry) (items : List IndexItem) (filter : List ℕ) → 5 < full → full ≤ 4096 → AreSorted es → 0 < length es → row.entries ≡ length es → row.bytes < 2 ^ 64 → row.bytes ≡ length (table_bytes full row.number es) → OpensAs row items filter (table_bytes full row.number es) → (items ≡ items_from 0 (blocks_of full es)) × (filter ≡ key_filter es) }
+    ensures { (row : TableRow) (full : ℕ) (es : List Entry) (items : List IndexItem)
+        (filter : List ℕ) → 5 < full → full ≤ 4096 → AreSorted es → 0 < length es
+        → row.entries ≡ length es → row.bytes < 2 ^ 64
+        → row.bytes ≡ length (table_bytes full row.number es)
+        → OpensAs row items filter (table_bytes full row.number es)
+        → (items ≡ items_from 0 (blocks_of full es)) × (filter ≡ key_filter es) }
 {
     block_grows();
     law_filter();
 }
 
-/// The blocks of sorted entries, in a profile whose blocks are full at most at 4096 bytes, have the entries one after
-/// another, and the spelling of each is a block.
+/// The blocks of sorted entries, in a profile whose blocks are full at most at 4096 bytes, have the entries
+/// one after another, and the spelling of each is a block.
 pub fn law_blocks()
-    ensures joined { (full : ℕ) (es : List Entry) → 5 < full → full ≤ 4096 → AreSorted es → flat_map (λ block. block) (blocks_of full es) ≡ es }
-    ensures blocks { (full : ℕ) (es : List Entry) → 5 < full → full ≤ 4096 → AreSorted es → AreBlocks (blocks_of full es) }
+    ensures joined { (full : ℕ) (es : List Entry) → 5 < full → full ≤ 4096 → AreSorted es
+        → flat_map (λ block. block) (blocks_of full es) ≡ es }
+    ensures blocks { (full : ℕ) (es : List Entry) → 5 < full → full ≤ 4096 → AreSorted es
+        → AreBlocks (blocks_of full es) }
 {
     block_grows();
 }
 
-/// A table's entries are cut into blocks in one way: one after another the blocks have the entries, none was full before its last
-/// entry, and each but the last is full.
+/// A table's entries are cut into blocks in one way: one after another the blocks have the entries, none
+/// was full before its last entry, and each but the last is full.
 pub fn law_cut()
     ensures cut { BlocksAreCut }
     ensures only { OneCut }
@@ -58,12 +72,14 @@ pub fn law_cut()
 
 /// The bytes of a table are as many as are reckoned from its entries and its profile's column alone.
 pub fn law_length()
-    ensures { (o : Column) (number : ℕ) (es : List Entry) → length (table_bytes o.block_bytes number es) ≡ reckoned.table_length o es }
+    ensures { (o : Column) (number : ℕ) (es : List Entry)
+        → length (table_bytes o.block_bytes number es) ≡ reckoned.table_length o es }
 {
     law_filter();
 }
 
-/// A table that was written holds the entries that were pushed, and so does one that is opened over their bytes.
+/// A table that was written holds the entries that were pushed, and so does
+/// one that is opened over their bytes.
 pub fn law_holds<F: TableHandle>()
     ensures written { WrittenHolds F.TableHandle }
     ensures opened { OpenedHolds F.TableHandle }

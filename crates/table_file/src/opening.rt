@@ -26,7 +26,8 @@ fn read_at<P: Port>(
     at: u64,
     len: usize,
 ) -> Result<Vec<u8>, TableFault>
-    ensures bytes { IfOk result (λ bytes. IsTrue P.File.tells → bytes.items ≡ take len (drop at (P.File.bytes file.now))) }
+    ensures bytes { IfOk result
+        (λ bytes. IsTrue P.File.tells → bytes.items ≡ take len (drop at (P.File.bytes file.now))) }
     ensures short { IfOk result (λ bytes. length bytes.items ≤ len) }
     ensures undamaged { IfErr result (λ why. IsDamage why → ⊥) }
     ensures table { IfErr result (λ why. (number : ℕ) → TellsTable number why) }
@@ -53,9 +54,13 @@ fn read_footer<P: Port>(
 ) -> Result<Footer, TableFault>
     requires { 48 ≤ row.now.bytes }
     ensures agrees { IfOk result (λ footer. IsFooterOf row.now footer) }
-    ensures long { IfOk result (λ footer. IsTrue P.File.tells → length (P.File.bytes file.now) ≡ row.now.bytes) }
-    ensures spelled { IfOk result (λ footer. IsTrue P.File.tells → drop (row.now.bytes - 48) (P.File.bytes file.now) ≡ footer_bytes footer) }
-    ensures damaged { IfErr result (λ why. IsDamage why → IsTrue P.File.tells → IsNoTable row.now (P.File.bytes file.now)) }
+    ensures long { IfOk result
+        (λ footer. IsTrue P.File.tells → length (P.File.bytes file.now) ≡ row.now.bytes) }
+    ensures spelled { IfOk result
+        (λ footer. IsTrue P.File.tells
+        → drop (row.now.bytes - 48) (P.File.bytes file.now) ≡ footer_bytes footer) }
+    ensures damaged { IfErr result
+        (λ why. IsDamage why → IsTrue P.File.tells → IsNoTable row.now (P.File.bytes file.now)) }
     ensures place { IfErr result (λ why. IsTrue P.File.tells →
         IsToldAt (IsPlaceOfDamage row.now (P.File.bytes file.now)) why) }
     ensures table { IfErr result (TellsTable row.now.number) }
@@ -94,8 +99,14 @@ fn read_index<P: Port>(
     requires footer { IsFooterOf row.now footer.now }
     requires bytes { row.now.bytes < 2 ^ 64 }
     ensures index { IfOk result (λ items. IsIndex footer.now.index items.items) }
-    ensures spelled { IfOk result (λ items. IsTrue P.File.tells → take footer.now.index_len (drop footer.now.index (P.File.bytes file.now)) ≡ index_bytes items.items) }
-    ensures damaged { IfErr result (λ why. IsDamage why → IsTrue P.File.tells → drop (row.now.bytes - 48) (P.File.bytes file.now) ≡ footer_bytes footer.now → IsNoTable row.now (P.File.bytes file.now)) }
+    ensures spelled { IfOk result
+        (λ items. IsTrue P.File.tells
+        → take footer.now.index_len (drop footer.now.index (P.File.bytes file.now))
+        ≡ index_bytes items.items) }
+    ensures damaged { IfErr result
+        (λ why. IsDamage why → IsTrue P.File.tells
+        → drop (row.now.bytes - 48) (P.File.bytes file.now) ≡ footer_bytes footer.now
+        → IsNoTable row.now (P.File.bytes file.now)) }
     ensures place { IfErr result (λ why. IsTrue P.File.tells →
         EndsWithFooter row.now (P.File.bytes file.now) footer.now →
         IsToldAt (IsPlaceOfDamage row.now (P.File.bytes file.now)) why) }
@@ -126,9 +137,13 @@ fn read_filter<P: Port>(
     footer: &Footer,
 ) -> Result<Filter, TableFault>
     requires { IsFooterOf row.now footer.now }
-    ensures filter { IfOk result (λ filter. IsTrue P.File.tells → filter ≡ take footer.now.filter_len (drop footer.now.filter (P.File.bytes file.now))) }
+    ensures filter { IfOk result
+        (λ filter. IsTrue P.File.tells
+        → filter ≡ take footer.now.filter_len (drop footer.now.filter (P.File.bytes file.now))) }
     ensures long { IfOk result (λ filter. length filter ≡ footer.now.filter_len) }
-    ensures damaged { IfErr result (λ why. IsDamage why → IsTrue P.File.tells → length (P.File.bytes file.now) ≡ row.now.bytes → ⊥) }
+    ensures damaged { IfErr result
+        (λ why. IsDamage why → IsTrue P.File.tells → length (P.File.bytes file.now) ≡ row.now.bytes
+        → ⊥) }
     ensures table { IfErr result (TellsTable row.now.number) }
     ensures port { ReadsAtMost P.Port 1 port.old port.new (result ≡ Err Fault) }
 {
@@ -154,8 +169,8 @@ fn read_filter<P: Port>(
 impl<F: TableHandle> Table<F> {
     /// Opens the table of a row: finds its file, and reads footer, index and filter, in this order.
     ///
-    /// `Damaged` comes only where the file isn't there, or where its length, its footer, its index or the filter's length disagree with the
-    /// row. `Fault` comes only where the port's count of faults rose.
+    /// `Damaged` comes only where the file isn't there, or where its length, its footer, its index or the
+    /// filter's length disagree with the row. `Fault` comes only where the port's count of faults rose.
     pub fn open<P: Port<File = F>>(
         alloc: Global,
         port: &mut P,
@@ -163,9 +178,14 @@ impl<F: TableHandle> Table<F> {
     ) -> Result<Table<F>, TableFault>
         ensures row { IfOk result (λ table. table.row ≡ row) }
         ensures number { IfOk result (λ table. F.number table.file ≡ row.number) }
-        ensures found { IfOk result (λ table. IsTrue F.tells → (P.table_files port.old).sealed row.number ≡ Some (F.bytes table.file)) }
-        ensures opened { IfOk result (λ table. IsTrue F.tells → OpensAs row table.items table.filter (F.bytes table.file)) }
-        ensures damaged { IfErr result (λ why. IsDamage why → IsTrue F.tells → (bytes : List ℕ) → (P.table_files port.old).sealed row.number ≡ Some bytes → IsNoTable row bytes) }
+        ensures found { IfOk result
+            (λ table. IsTrue F.tells
+            → (P.table_files port.old).sealed row.number ≡ Some (F.bytes table.file)) }
+        ensures opened { IfOk result
+            (λ table. IsTrue F.tells → OpensAs row table.items table.filter (F.bytes table.file)) }
+        ensures damaged { IfErr result
+            (λ why. IsDamage why → IsTrue F.tells → (bytes : List ℕ)
+            → (P.table_files port.old).sealed row.number ≡ Some bytes → IsNoTable row bytes) }
         ensures place { IfErr result (λ why. IsTrue F.tells → (bytes : List ℕ) →
             (P.table_files port.old).sealed row.number ≡ Some bytes →
             IsToldAt (IsPlaceOfDamage row bytes) why) }

@@ -54,8 +54,10 @@ impl Summary {
 
     /// Adds an entry, which comes after the others.
     pub fn add(&mut self, entry: &EntryRef<'_>)
-        requires { (es : List Entry) × Sums self.old es × AreSorted (es ++ entry_of entry.now ∷ []) × (length es < 2 ^ 31) }
-        ensures { (es : List Entry) → Sums self.old es → AreSorted (es ++ entry_of entry.now ∷ []) → Sums self.new (es ++ entry_of entry.now ∷ []) }
+        requires { (es : List Entry) × Sums self.old es × AreSorted (es ++ entry_of entry.now ∷ [])
+            × (length es < 2 ^ 31) }
+        ensures { (es : List Entry) → Sums self.old es → AreSorted (es ++ entry_of entry.now ∷ [])
+            → Sums self.new (es ++ entry_of entry.now ∷ []) }
     {
         put_first(&mut self.smallest, self.entries, entry.key);
         self.entries += 1;
@@ -90,7 +92,9 @@ impl Summary {
         bytes: u64,
     ) -> Result<TableRow, PutFault>
         requires { (es : List Entry) × Sums self.now es × AreSorted es × (0 < length es) }
-        ensures row { IfOk result (λ row. (es : List Entry) → Sums self.now es → AreSorted es → 0 < length es → IsRowOf row es) }
+        ensures row { IfOk result
+            (λ row. (es : List Entry) → Sums self.now es → AreSorted es → 0 < length es
+            → IsRowOf row es) }
         ensures number { IfOk result (λ row. row.number ≡ number) }
         ensures level { IfOk result (λ row. row.level ≡ level) }
         ensures tier { IfOk result (λ row. row.tier ≡ 0) }

@@ -12,9 +12,11 @@ use disk_model::TableHandle;
 use peb_base::{HasRow, Number, TableRow, is_before};
 use std::marker::Model;
 
-/// A sorted table (SSTable): its row, the handle of its file, its index and its filter; contracts see these four.
+/// A sorted table (SSTable): its row, the handle of its file, its index and
+/// its filter; contracts see these four.
 ///
-/// Its file has the row's number, it has a block at least, no block by its index is longer than 40,960 bytes, and the last entries of its blocks ascend.
+/// Its file has the row's number, it has a block at least, no block by its index is longer than
+/// 40,960 bytes, and the last entries of its blocks ascend.
 #[derive(Drop)]
 pub struct Table<F: TableHandle> {
     pub(crate) row: TableRow,
@@ -28,9 +30,22 @@ impl<F: TableHandle> Model for Table<F> {
 
     ghost Value = { TableParts F };
 
-    ghost view = { λ table. record { row = table.row; file = table.file; items = table.items.items; filter = table.filter } };
+    ghost view = { λ table. record {
+      row = table.row;
+      file = table.file;
+      items =
+          table.items.items;
+      filter = table.filter;
+    } };
 
-    ghost invariant = { λ table. IsShaped F.number (record { row = table.row; file = table.file; items = table.items.items; filter = table.filter }) };
+    ghost invariant = { λ table. IsShaped F.number
+        (record {
+          row = table.row;
+          file = table.file;
+          items = table.items.items;
+          filter =
+              table.filter;
+        }) };
 }
 
 impl<F: TableHandle> Table<F> {
@@ -57,8 +72,8 @@ impl<F: TableHandle> Table<F> {
         self.items.len()
     }
 
-    /// An index item by its index, below the number of blocks: the block's place and length in bytes, the length at most
-    /// 40,960, and the key and the number of its last entry.
+    /// An index item by its index, below the number of blocks: the block's place and length in bytes, the
+    /// length at most 40,960, and the key and the number of its last entry.
     pub fn item(&self, index: usize) -> (u64, u32, &[u8], Number)
         requires { index < length self.now.items }
         ensures item { slice_get self.now.items index ≡
@@ -83,8 +98,8 @@ impl<F: TableHandle> Table<F> {
         self.filter.may_hold(key)
     }
 
-    /// The index of the block that has the first entry at or after this key and number, or the number of blocks where every
-    /// entry is before. A binary search over the index.
+    /// The index of the block that has the first entry at or after this key and number, or the number of
+    /// blocks where every entry is before. A binary search over the index.
     pub fn block_index(&self, key: &[u8], number: Number) -> usize
         ensures { result ≡ index_for key.now number self.now.items }
     {
@@ -97,8 +112,8 @@ impl<F: TableHandle> Table<F> {
         )
     }
 
-    /// The place and the length, in bytes, of the block that has the first entry at or after this key and number; None
-    /// exactly where every entry is before.
+    /// The place and the length, in bytes, of the block that has the first entry at or after this key and
+    /// number; None exactly where every entry is before.
     pub fn block_of(&self, key: &[u8], number: Number) -> Option<(u64, u32)>
         ensures { result ≡ block_for key.now number self.now.items }
     {

@@ -33,8 +33,8 @@ const MOST_ENTRIES: u64 = 1_717_986_918;
 
 /// The writer of tables, one after another.
 ///
-/// It keeps the block that is begun, the index, what the row tells, and the hash of each key, since the filter is built when
-/// the number of entries is known.
+/// It keeps the block that is begun, the index, what the row tells, and the hash of each key, since the
+/// filter is built when the number of entries is known.
 #[derive(Drop)]
 pub struct TableWriter {
     alloc: Global,
@@ -70,9 +70,16 @@ fn close_block<M: Maker>(
     requires begun { IsSome (M.begun maker.old) }
     requires last { (es : List Entry) × Sums summary.now es × AreSorted es × (0 < length es) }
     ensures builder { builder.new ≡ record builder.old { entries = [] } }
-    ensures index { OnOk result ((blocks : List (List Entry)) → Indexes index.old blocks → last_key builder.old.entries ≡ summary.now.largest → last_number builder.old.entries ≡ summary.now.latest → Indexes index.new (blocks ++ builder.old.entries ∷ [])) }
-    ensures written { OnOk result (IsTrue M.File.tells → M.written maker.new ≡ M.written maker.old ++ block_bytes builder.old.entries) }
-    ensures refused { IsRefused (index_fault (index.old.bytes + 22 + length summary.now.largest)) result }
+    ensures index { OnOk result
+        ((blocks : List (List Entry)) → Indexes index.old blocks
+        → last_key builder.old.entries ≡ summary.now.largest
+        → last_number builder.old.entries ≡ summary.now.latest
+        → Indexes index.new (blocks ++ builder.old.entries ∷ [])) }
+    ensures written { OnOk result
+        (IsTrue M.File.tells → M.written maker.new ≡ M.written maker.old
+        ++ block_bytes builder.old.entries) }
+    ensures refused { IsRefused
+        (index_fault (index.old.bytes + 22 + length summary.now.largest)) result }
     ensures begun { M.begun maker.new ≡ M.begun maker.old }
     ensures sealed { M.sealed maker.new ≡ M.sealed maker.old }
     ensures gone { M.gone maker.new ≡ M.gone maker.old }
@@ -96,9 +103,17 @@ fn close_last<M: Maker>(
     requires begun { IsSome (M.begun maker.old) }
     requires last { (es : List Entry) × Sums summary.now es × AreSorted es × (0 < length es) }
     ensures builder { OnOk result (builder.new ≡ record builder.old { entries = [] }) }
-    ensures index { OnOk result ((blocks : List (List Entry)) → Indexes index.old blocks → EndsWith summary.now builder.old.entries → Indexes index.new (with_last blocks builder.old.entries)) }
-    ensures written { OnOk result (IsTrue M.File.tells → (blocks : List (List Entry)) → M.written maker.old ≡ body_bytes blocks → M.written maker.new ≡ body_bytes (with_last blocks builder.old.entries)) }
-    ensures refused { (blocks : List (List Entry)) → Indexes index.old blocks → EndsWith summary.now builder.old.entries → IsRefused (blocks_fault (with_last blocks builder.old.entries)) result }
+    ensures index { OnOk result
+        ((blocks : List (List Entry)) → Indexes index.old blocks
+        → EndsWith summary.now builder.old.entries
+        → Indexes index.new (with_last blocks builder.old.entries)) }
+    ensures written { OnOk result
+        (IsTrue M.File.tells → (blocks : List (List Entry))
+        → M.written maker.old ≡ body_bytes blocks
+        → M.written maker.new ≡ body_bytes (with_last blocks builder.old.entries)) }
+    ensures refused { (blocks : List (List Entry)) → Indexes index.old blocks
+        → EndsWith summary.now builder.old.entries
+        → IsRefused (blocks_fault (with_last blocks builder.old.entries)) result }
     ensures full { builder.new.full ≡ builder.old.full }
     ensures begun { M.begun maker.new ≡ M.begun maker.old }
     ensures sealed { M.sealed maker.new ≡ M.sealed maker.old }
@@ -124,8 +139,13 @@ fn write_tail<M: Maker>(
 ) -> Result<M::File, PutFault>
     requires { IsSome (M.begun maker.old) }
     ensures number { IfOk result (λ file. M.begun maker.old ≡ Some (M.File.number file)) }
-    ensures bytes { IfOk result (λ file. IsTrue M.File.tells → M.File.bytes file ≡ M.written maker.old ++ (index.now ++ (filter.now ++ footer_bytes footer))) }
-    ensures sealed { IfOk result (λ file. IsTrue M.File.tells → M.sealed maker.new ≡ with_table (M.File.number file) (M.File.bytes file) (M.sealed maker.old)) }
+    ensures bytes { IfOk result
+        (λ file. IsTrue M.File.tells → M.File.bytes file ≡ M.written maker.old
+        ++ (index.now ++ (filter.now ++ footer_bytes footer))) }
+    ensures sealed { IfOk result
+        (λ file. IsTrue M.File.tells
+        → M.sealed maker.new
+        ≡ with_table (M.File.number file) (M.File.bytes file) (M.sealed maker.old)) }
     ensures ended { OnOk result (M.begun maker.new ≡ None) }
     ensures unsealed { OnErr result (M.sealed maker.new ≡ M.sealed maker.old) }
     ensures gone { M.gone maker.new ≡ M.gone maker.old }
@@ -151,10 +171,17 @@ fn seal_table<M: Maker>(
     maker: &mut M,
 ) -> Result<Table<M::File>, PutFault>
     requires begun { M.begun maker.old ≡ Some number }
-    requires entries { (es : List Entry) × (blocks : List (List Entry)) × Gathers index.old hashes.now summary.now blocks es }
-    ensures table { IfOk result (λ table. (es : List Entry) (blocks : List (List Entry)) → Gathers index.old hashes.now summary.now blocks es → (IsTrue M.File.tells → M.written maker.old ≡ body_bytes blocks) → IsTableOf M.File.TableHandle table blocks es) }
+    requires entries { (es : List Entry) × (blocks : List (List Entry))
+        × Gathers index.old hashes.now summary.now blocks es }
+    ensures table { IfOk result
+        (λ table. (es : List Entry) (blocks : List (List Entry))
+        → Gathers index.old hashes.now summary.now blocks es
+        → (IsTrue M.File.tells → M.written maker.old ≡ body_bytes blocks)
+        → IsTableOf M.File.TableHandle table blocks es) }
     ensures row { IfOk result (λ table. IsRowAt table.row number level 0) }
-    ensures sealed { IfOk result (λ table. IsTrue M.File.tells → M.sealed maker.new ≡ with_table number (M.File.bytes table.file) (M.sealed maker.old)) }
+    ensures sealed { IfOk result
+        (λ table. IsTrue M.File.tells
+        → M.sealed maker.new ≡ with_table number (M.File.bytes table.file) (M.sealed maker.old)) }
     ensures fault { IfErr result (λ fault. (fault ≡ PutFault.Memory) ⊎ (fault ≡ PutFault.Fault)) }
     ensures ended { OnOk result (M.begun maker.new ≡ None) }
     ensures unsealed { OnErr result (M.sealed maker.new ≡ M.sealed maker.old) }
@@ -207,7 +234,8 @@ impl TableWriter {
     ///
     /// `Fault` comes only where the maker's count of faults rose.
     pub fn start<M: Maker>(&mut self, maker: &mut M, number: u64, level: u8) -> Result<(), PutFault>
-        ensures begun { OnOk result (HasPushed M.File.tells (M.begun maker.new) (M.written maker.new) self.new []) }
+        ensures begun { OnOk result
+            (HasPushed M.File.tells (M.begun maker.new) (M.written maker.new) self.new []) }
         ensures fault { IfErr result (λ why. why ≡ PutFault.Fault) }
         ensures number { OnOk result (self.new.number ≡ number) }
         ensures level { OnOk result (self.new.level ≡ level) }
@@ -227,15 +255,26 @@ impl TableWriter {
         Ok(())
     }
 
-    /// Appends an entry, which comes after those that were pushed since `start`. The maker is as the writer's last call left it.
+    /// Appends an entry, which comes after those that were pushed since `start`. The
+    /// maker is as the writer's last call left it.
     ///
-    /// `Limit` comes exactly where the table has all the entries that a table may have, or where the entry fills a block whose
-    /// item would make the index too long. `Fault` comes only where the maker's count of faults rose. After an error the
-    /// writer is good for another table alone.
+    /// `Limit` comes exactly where the table has all the entries that a table may have, or where the entry
+    /// fills a block whose item would make the index too long. `Fault` comes only where the maker's count
+    /// of faults rose. After an error the writer is good for another table alone.
     pub fn push<M: Maker>(&mut self, maker: &mut M, entry: EntryRef<'_>) -> Result<(), PutFault>
-        requires { (es : List Entry) × HasPushed M.File.tells (M.begun maker.old) (M.written maker.old) self.old es × AreSorted (es ++ entry_of entry ∷ []) }
-        ensures pushed { OnOk result ((es : List Entry) → HasPushed M.File.tells (M.begun maker.old) (M.written maker.old) self.old es → AreSorted (es ++ entry_of entry.entry ∷ []) → HasPushed M.File.tells (M.begun maker.new) (M.written maker.new) self.new (es ++ entry_of entry.entry ∷ [])) }
-        ensures limit { (es : List Entry) → HasPushed M.File.tells (M.begun maker.old) (M.written maker.old) self.old es → AreSorted (es ++ entry_of entry.entry ∷ []) → IsRefused (push_fault (block_length self.old) es (entry_of entry.entry)) result }
+        requires { (es : List Entry)
+            × HasPushed M.File.tells (M.begun maker.old) (M.written maker.old) self.old es
+            × AreSorted (es ++ entry_of entry ∷ []) }
+        ensures pushed { OnOk result
+            ((es : List Entry)
+            → HasPushed M.File.tells (M.begun maker.old) (M.written maker.old) self.old es
+            → AreSorted (es ++ entry_of entry.entry ∷ [])
+            → HasPushed M.File.tells (M.begun maker.new) (M.written maker.new) self.new
+            (es ++ entry_of entry.entry ∷ [])) }
+        ensures limit { (es : List Entry)
+            → HasPushed M.File.tells (M.begun maker.old) (M.written maker.old) self.old es
+            → AreSorted (es ++ entry_of entry.entry ∷ [])
+            → IsRefused (push_fault (block_length self.old) es (entry_of entry.entry)) result }
         ensures number { self.new.number ≡ self.old.number }
         ensures level { self.new.level ≡ self.old.level }
         ensures block { block_length self.new ≡ block_length self.old }
@@ -265,17 +304,30 @@ impl TableWriter {
         }
     }
 
-    /// Closes the table, of which an entry was pushed since `start`, makes it durable and gives it. The maker is as the
-    /// writer's last call left it.
+    /// Closes the table, of which an entry was pushed since `start`, makes it durable and gives it.
+    /// The maker is as the writer's last call left it.
     ///
-    /// `Limit` comes exactly where the last block's item would make the index too long. `Fault` comes only where the maker's
-    /// count of faults rose. After an error the writer is good for another table alone, as after Ok.
+    /// `Limit` comes exactly where the last block's item would make the index too long.
+    /// `Fault` comes only where the maker's count of faults rose. After an error the writer is
+    /// good for another table alone, as after Ok.
     pub fn finish<M: Maker>(&mut self, maker: &mut M) -> Result<Table<M::File>, PutFault>
-        requires { (es : List Entry) × HasPushed M.File.tells (M.begun maker.old) (M.written maker.old) self.old es × (0 < length es) }
-        ensures table { IfOk result (λ table. (es : List Entry) → HasPushed M.File.tells (M.begun maker.old) (M.written maker.old) self.old es → 0 < length es → IsTableOf M.File.TableHandle table (blocks_of (block_length self.old) es) es) }
+        requires { (es : List Entry)
+            × HasPushed M.File.tells (M.begun maker.old) (M.written maker.old) self.old es
+            × (0 < length es) }
+        ensures table { IfOk result
+            (λ table. (es : List Entry)
+            → HasPushed M.File.tells (M.begun maker.old) (M.written maker.old) self.old es
+            → 0 < length es
+            → IsTableOf M.File.TableHandle table (blocks_of (block_length self.old) es) es) }
         ensures row { IfOk result (λ table. IsRowAt table.row self.old.number self.old.level 0) }
-        ensures sealed { IfOk result (λ table. IsTrue M.File.tells → M.sealed maker.new ≡ with_table self.old.number (M.File.bytes table.file) (M.sealed maker.old)) }
-        ensures limit { (es : List Entry) → HasPushed M.File.tells (M.begun maker.old) (M.written maker.old) self.old es → 0 < length es → IsRefused (blocks_fault (blocks_of (block_length self.old) es)) result }
+        ensures sealed { IfOk result
+            (λ table. IsTrue M.File.tells
+            → M.sealed maker.new
+            ≡ with_table self.old.number (M.File.bytes table.file) (M.sealed maker.old)) }
+        ensures limit { (es : List Entry)
+            → HasPushed M.File.tells (M.begun maker.old) (M.written maker.old) self.old es
+            → 0 < length es
+            → IsRefused (blocks_fault (blocks_of (block_length self.old) es)) result }
         ensures block { block_length self.new ≡ block_length self.old }
         ensures ended { OnOk result (M.begun maker.new ≡ None) }
         ensures unsealed { OnErr result (M.sealed maker.new ≡ M.sealed maker.old) }
