@@ -20,4 +20,4 @@ pub use laws::{law_walk_ascends, law_walk_ends, law_walk_told};
 pub use looking::{look_in, look_up};
 pub use table_cursor::TableCursor;
 pub use trip_fault::TripFault;
-pub use trips::round_trip;
+pub use trips::{are_sorted, round_trip};

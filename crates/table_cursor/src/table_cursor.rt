@@ -231,7 +231,8 @@ impl<P: Port> TableCursor<P> {
             (spot self.new.index self.new.page
             ≡ spot_after step (arc_value self.old.table).items self.old.index self.new.page) }
         ensures within { (place : ℕ) → step ≡ Step.Within place →
-            IsOk result × (self.new.page ≡ record self.old.page { place = place }) × (self.new.index ≡ self.old.index) × (self.new.port ≡ self.old.port) }
+            IsOk result × (self.new.page ≡ record self.old.page { place = place })
+            × (self.new.index ≡ self.old.index) × (self.new.port ≡ self.old.port) }
         ensures leads { (es : List Entry)
             → (holds : Holds P.File.TableHandle (arc_value self.old.table) es) → (place : Option ℕ)
             → OnPage self.old.page self.old.index (blocks_of holds.full es) es place

@@ -6,12 +6,13 @@ ghost use Rattle.peb_base.specs.Entries.{IsEntry, AreSorted, comes_before};
 ghost use Rattle.peb_base.specs.declared.entry.Entry.{Entry};
 ghost use Rattle.table_file.specs.Writing.{HasPushed};
 
-use crate::TableCursor;
+use crate::{TableCursor, are_sorted, look_in, look_up, round_trip};
+use block_form::Block;
 use block_pool::Pool;
 use disk_model::{Devices, FailPlan, Maker, MemDevices, Plans, Port};
 use peb_base::{
-    ChangeRef, Cursor, EntryRef, Key, Number, Options, Profile, ReadFault, TableRow, Value,
-    is_before,
+    Change, ChangeRef, Cursor, Entry, EntryRef, Key, KeyBuf, List, Number, Options, Profile,
+    ReadFault, TableRow, Value, is_before,
 };
 use std::alloc::Global;
 use std::sync::Arc;
@@ -43,9 +44,16 @@ fn push_behind<M: Maker>(
     before: (&[u8], u64),
     entry: EntryRef<'_>,
 ) -> Result<bool, PutFault>
-    requires pushed { (es : List Entry) × HasPushed M.File.tells (M.begun maker.old) (M.written maker.old) writer.old es × ((e : Entry) → IsEntry e → comes_before before.0.now before.1 e.key e.number ≡ true → AreSorted (es ++ e ∷ [])) }
+    requires pushed { (es : List Entry)
+        × HasPushed M.File.tells (M.begun maker.old) (M.written maker.old) writer.old es
+        × ((e : Entry) → IsEntry e → comes_before before.0.now before.1 e.key e.number ≡ true →
+        AreSorted (es ++ e ∷ [])) }
     requires entry { IsEntry (entry_of entry) }
-    ensures { IfOk result (λ is_pushed. IsTrue is_pushed → (es : List Entry) × HasPushed M.File.tells (M.begun maker.new) (M.written maker.new) writer.new es × (0 < length es) × ((e : Entry) → IsEntry e → comes_before entry.entry.key.now entry.entry.number e.key e.number ≡ true → AreSorted (es ++ e ∷ []))) }
+    ensures { IfOk result (λ is_pushed. IsTrue is_pushed → (es : List Entry)
+        × HasPushed M.File.tells (M.begun maker.new) (M.written maker.new) writer.new es
+        × (0 < length es) × ((e : Entry) → IsEntry e →
+        comes_before entry.entry.key.now entry.entry.number e.key e.number ≡ true →
+        AreSorted (es ++ e ∷ []))) }
 {
     if !is_before(before.0, before.1, entry.key, entry.number) {
         return Ok(false);
@@ -270,7 +278,7 @@ fn a_fault_leaves_no_place_until_the_next_seek(rt: HostRuntime) -> Result<(), Fa
     Ok(())
 }
 
-/// How many steps there are from the first entry to the last and back, and whether each key came behind the one before.
+/// How many steps there are from the first entry to the last and back, each key behind the one before.
 fn counted<P: Port>(cursor: &mut TableCursor<P>, most: u32) -> Result<(u32, u32), ReadFault> {
     let (mut on, mut back) = (0u32, 0u32);
     cursor.first()?;
@@ -328,7 +336,8 @@ fn a_table_of_twenty_thousand_entries_is_walked_both_ways(rt: HostRuntime) -> Re
     Ok(())
 }
 
-/// How many of so many numbers that fall to 1 the cursor shows on the way on, on the way back, and at a seek of each.
+/// How many of so many numbers that fall to 1 the cursor shows on the way on, on the way back, and at
+/// a seek of each.
 fn found<P: Port>(cursor: &mut TableCursor<P>, most: u32) -> Result<[u32; 3], ReadFault> {
     let mut found = [0u32; 3];
     cursor.first()?;
@@ -370,7 +379,8 @@ fn shows<P: Port>(cursor: &TableCursor<P>, count: u32) -> bool {
         .is_some_and(|entry| entry.number() == numbered(count))
 }
 
-/// The number of blocks of a table of one key of one byte whose numbers fall to 1, with values of one byte, and what is found there.
+/// The number of blocks of a table of one key of one byte whose numbers fall to 1, with values of one
+/// byte, and what is found there.
 fn fallen(alloc: Global, profile: Profile, most: u32) -> Result<(usize, [u32; 3]), Fail> {
     let mut entries = Vec::new(alloc);
     for count in (1..most.saturating_add(1)).rev() {
@@ -413,5 +423,159 @@ fn blocks_of_1_to_224_entries_are_walked_and_sought(rt: HostRuntime) -> Result<(
         let told = fallen(alloc, profile, most)?;
         assert_eq!(rt; told, (blocks, [most; 3]), "{most} entries");
     }
+    Ok(())
+}
+
+/// The row of the table of one put.
+fn row_of_one(alloc: Global) -> Result<TableRow, Fail> {
+    Ok(TableRow {
+        number: ONE,
+        level: 2,
+        tier: 0,
+        smallest: Key::new(alloc, b"a")?,
+        largest: Key::new(alloc, b"a")?,
+        entries: 1,
+        raw: 2,
+        first: Number::new(1, 1),
+        last: Number::new(1, 1),
+        bytes: 111,
+    })
+}
+
+/// The number and the first byte of the value of what was found.
+fn told(entry: EntryRef<'_>) -> (u64, Option<u8>) {
+    match entry.change {
+        ChangeRef::Put(value) => (entry.number, value.first().copied()),
+        ChangeRef::Delete => (entry.number, None),
+    }
+}
+
+/// Looks a key up in a file that is to be the table of one put.
+fn looked(
+    alloc: Global,
+    bytes: &[u8],
+    key: &[u8],
+    number: Number,
+) -> Result<Result<Option<(u64, Option<u8>)>, ReadFault>, Fail> {
+    let devices = MemDevices::new(alloc, Plans::empty(alloc))?;
+    let mut devices = devices.with_table(ONE, bytes)?;
+    let row = row_of_one(alloc)?;
+    let mut pool = Pool::new(alloc, 1)?;
+    let mut port = devices.port()?;
+    let table = match shared(alloc, &mut port, row) {
+        Ok(table) => table,
+        Err(fail) => {
+            devices.back_port(port);
+            return Err(fail);
+        }
+    };
+    let Some(mut loan) = pool.lend() else {
+        devices.back_port(port);
+        return Err(Fail::from("no loan"));
+    };
+    let mut room = KeyBuf::new();
+    let found = match look_up(&table, &mut port, &mut loan, key, number, &mut room) {
+        Ok(found) => Ok(found.map(told)),
+        Err(fault) => Err(fault),
+    };
+    devices.back_port(port);
+    pool.give_back(loan);
+    Ok(found)
+}
+
+#[test]
+fn an_entry_is_looked_up_by_reference(rt: HostRuntime) -> Result<(), Fail> {
+    let alloc = rt.alloc();
+    let one = Ok(Some((ONE, Some(b'1'))));
+    assert_eq!(rt; looked(alloc, &TABLE, b"a", Number::new(1, 1))?, one);
+    assert_eq!(rt; looked(alloc, &TABLE, b"a", Number::new(2, 0))?, one);
+    assert_eq!(rt; looked(alloc, &TABLE, b"a", Number::new(1, 0))?, Ok(None));
+    assert_eq!(rt; looked(alloc, &TABLE, b"", Number::new(2, 0))?, Ok(None));
+    assert_eq!(rt; looked(alloc, &TABLE, b"b", Number::new(2, 0))?, Ok(None));
+    let mut bytes = TABLE;
+    bytes[18] = b'b';
+    let damaged = Err(ReadFault::Damaged { table: ONE, at: 0 });
+    assert_eq!(rt; looked(alloc, &bytes, b"a", Number::new(1, 1))?, damaged);
+    Ok(())
+}
+
+#[test]
+fn an_entry_is_looked_up_in_a_block_at_hand(rt: HostRuntime) -> Result<(), Fail> {
+    let bytes = &TABLE[..28];
+    let count = Block::read(bytes)?.len();
+    assert_eq!(rt; count, 1);
+    let mut room = KeyBuf::new();
+    let found = look_in(bytes, count, b"a", Number::new(1, 2), &mut room).map(told);
+    assert_eq!(rt; found, Some((ONE, Some(b'1'))));
+    let older = look_in(bytes, count, b"a", Number::new(1, 0), &mut room).map(told);
+    assert_eq!(rt; older, None);
+    let other = look_in(bytes, count, b"b", Number::new(1, 2), &mut room).map(told);
+    assert_eq!(rt; other, None);
+    Ok(())
+}
+
+/// An entry of session 1.
+fn entry(alloc: Global, key: &[u8], count: u64, value: Option<&[u8]>) -> Result<Entry, Fail> {
+    let change = match value {
+        Some(value) => Change::Put(Value::new(alloc, value)?),
+        None => Change::Delete,
+    };
+    Ok(Entry {
+        key: Key::new(alloc, key)?,
+        number: Number::new(1, count % 1000),
+        change,
+    })
+}
+
+/// Writes these entries and walks them, if they are sorted.
+fn tripped(alloc: Global, entries: &[Entry]) -> Result<Option<List<Entry>>, Fail> {
+    if entries.is_empty() || !are_sorted(entries) {
+        return Ok(None);
+    }
+    let mut devices = MemDevices::new(alloc, Plans::empty(alloc))?;
+    let options = Options::of(Profile::Small);
+    let seen = round_trip(alloc, &mut devices, &options, ONE, 2, entries)?;
+    Ok(Some(seen))
+}
+
+/// The first byte of the key, the count of the number and the length of the value of each.
+fn plain(
+    alloc: Global,
+    entries: &List<Entry>,
+) -> Result<Vec<(Option<u8>, u64, Option<usize>)>, Fail> {
+    let mut plain = Vec::new(alloc);
+    for entry in entries.items() {
+        let value = match &entry.change {
+            Change::Put(value) => Some(value.bytes().len()),
+            Change::Delete => None,
+        };
+        plain.push((
+            entry.key.bytes().first().copied(),
+            entry.number.count(),
+            value,
+        ))?;
+    }
+    Ok(plain)
+}
+
+#[test]
+fn what_was_written_is_walked(rt: HostRuntime) -> Result<(), Fail> {
+    let alloc = rt.alloc();
+    let mut entries = Vec::new(alloc);
+    entries.push(entry(alloc, b"a", 2, None)?)?;
+    entries.push(entry(alloc, b"a", 1, Some(&[b'v'; 240]))?)?;
+    entries.push(entry(alloc, b"p", 3, Some(b"12"))?)?;
+    let seen = tripped(alloc, &entries)?.ok_or("not sorted")?;
+    assert_eq!(rt;
+        plain(alloc, &seen)?.as_slice(),
+        [
+            (Some(b'a'), 2, None),
+            (Some(b'a'), 1, Some(240)),
+            (Some(b'p'), 3, Some(2))
+        ]
+        .as_slice()
+    );
+    entries.push(entry(alloc, b"p", 4, None)?)?;
+    assert!(rt; tripped(alloc, &entries)?.is_none());
     Ok(())
 }

@@ -1,8 +1,8 @@
 //! Tables that are written, opened and walked.
 
-ghost use Rattle.std.specs.Prelude.{◌≡◌, ◌≤◌, ◌<◌, ◌^◌, ◌-◌, ◌∷◌, ◌++◌, [], ℕ, false, min, List, Option, Some, None, Err, IfOk, IfErr, OnOk, OnErr, IsTrue, length};
+ghost use Rattle.std.specs.Prelude.{◌≡◌, ◌↔◌, ◌≤◌, ◌<◌, ◌^◌, ◌-◌, ◌∷◌, ◌++◌, [], ℕ, false, min, List, Option, Some, None, Err, IfOk, IfErr, OnOk, OnErr, IsTrue, length};
 ghost use Rattle.disk_model.specs.Tables.{with_table, is_gone, StaysOrGoes};
-ghost use Rattle.peb_base.specs.Entries.{AreSorted};
+ghost use Rattle.peb_base.specs.Entries.{AreSorted, IsEntry};
 ghost use Rattle.peb_base.specs.EntryRefs.{entry_of};
 ghost use Rattle.peb_base.specs.Faults.{Rose};
 ghost use Rattle.peb_base.specs.declared.entry.Entry.{Entry};
@@ -23,10 +23,40 @@ use block_pool::Pool;
 use disk_model::{Devices, Maker, Port};
 use peb_base::{
     Change, ChangeRef, Cursor, Entry, EntryRef, Key, List, Memory, Options, TableRow, Value,
+    is_before,
 };
 use std::alloc::Global;
 use std::sync::Arc;
 use table_file::{PutFault, Table, TableWriter, law_holds, written_opens};
+
+/// Whether entries ascend strictly in entry order, as those of a table do.
+pub fn are_sorted(entries: &[Entry]) -> bool
+    ensures { IsTrue result ↔ AreSorted entries.now }
+{
+    let mut before: &[u8] = &[];
+    let mut above = 0;
+    'each: for entry in entries {
+        let number = entry.number.packed();
+        if !is_before(before, above, bounded(entry), number) {
+            return false;
+        }
+        before = entry.key.bytes();
+        above = number;
+    }
+    true
+}
+
+/// The key of an entry, all of whose parts are within their limits.
+fn bounded(entry: &Entry) -> &[u8]
+    ensures key { result.now ≡ entry.now.key }
+    ensures within { IsEntry entry.now }
+{
+    if let Change::Put(value) = &entry.change {
+        value.bytes();
+    }
+    entry.number.packed();
+    entry.key.bytes()
+}
 
 /// Lends an entry.
 fn lent(entry: &Entry) -> EntryRef<'_>
@@ -318,8 +348,8 @@ fn walked<D: Devices>(
     ensures spans { IfOk result (λ seen. SpansRow row seen) }
     // when it fails
     ensures undamaged { (full : ℕ) (es : List Entry) → IsTrue D.F.tells → IsRowWritten row full es →
-        (D.tables_told devices.old).files.sealed row.number ≡ Some (table_bytes full row.number es) →
-        IfErr result (λ why. TellsDamage why → ⊥) }
+        (D.tables_told devices.old).files.sealed row.number
+        ≡ Some (table_bytes full row.number es) → IfErr result (λ why. TellsDamage why → ⊥) }
     ensures damaged { IfErr result (TellsTable row.number) }
     ensures unlimited { IfErr result
         (λ why. (full : ℕ) (es : List Entry) → LimitsTrip full es why) }
