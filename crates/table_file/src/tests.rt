@@ -52,58 +52,73 @@ fn write_two<M: Maker>(alloc: Global, maker: &mut M) -> Result<Table<M::File>, P
     writer.finish(maker)
 }
 
-#[test]
-fn a_table_of_one_put_has_these_bytes(rt: HostRuntime) -> Result<(), Fail> {
-    let alloc = rt.alloc();
+/// What its row tells of a table: its length, its entries, their raw length, its level, its first number.
+type RowTold = (u64, u64, u64, u8, Number);
+
+/// The bytes of the table of one put, what its row tells, whether its smallest key is `a`, and whether
+/// it may hold `a` and `b`.
+fn written_one(alloc: Global) -> Result<(Vec<u8>, RowTold, [bool; 3]), Fail> {
     let mut devices = MemDevices::new(alloc, Plans::empty(alloc))?;
     let mut maker = devices.maker()?;
     let made = write_one(alloc, &mut maker);
     devices.back_maker(maker);
     let table = made?;
-    assert_eq!(rt;
-        devices.table_bytes(ONE).ok_or("no table")?,
-        TABLE.as_slice()
-    );
-    assert_eq!(rt; table.row().bytes, 111);
-    assert_eq!(rt; table.row().entries, 1);
-    assert_eq!(rt; table.row().raw, 2);
-    assert_eq!(rt; table.row().level, 2);
-    assert_eq!(rt; table.row().smallest.bytes(), b"a".as_slice());
-    assert_eq!(rt; table.row().first, Number::new(1, 1));
-    assert!(rt; table.may_hold(b"a"));
-    assert!(rt; !table.may_hold(b"b"));
-    Ok(())
+    let bytes = Vec::from_slice(alloc, devices.table_bytes(ONE).ok_or("no table")?)?;
+    let row = table.row();
+    let told = (row.bytes, row.entries, row.raw, row.level, row.first);
+    let is_a = row.smallest.bytes() == b"a".as_slice();
+    Ok((
+        bytes,
+        told,
+        [is_a, table.may_hold(b"a"), table.may_hold(b"b")],
+    ))
 }
 
-#[test]
-fn a_block_is_found_by_a_key_and_a_number(rt: HostRuntime) -> Result<(), Fail> {
-    let alloc = rt.alloc();
+/// The bytes of the table of two puts, how many blocks it has, the indexes of these keys and numbers, and
+/// the blocks of `b` and `q`.
+fn written_two(
+    alloc: Global,
+    keys: [(&[u8], Number); 5],
+) -> Result<(Vec<u8>, usize, [usize; 5], [Option<(u64, u32)>; 2]), Fail> {
     let mut devices = MemDevices::new(alloc, Plans::empty(alloc))?;
     let mut maker = devices.maker()?;
     let made = write_two(alloc, &mut maker);
     devices.back_maker(maker);
     let table = made?;
-    assert_eq!(rt; table.block_index(b"", Number::new(0, 0)), 0);
-    assert_eq!(rt; table.block_index(b"a", Number::new(1, 1)), 0);
-    assert_eq!(rt; table.block_index(b"a", Number::new(1, 0)), 1);
-    assert_eq!(rt; table.block_index(b"p", Number::new(1, 2)), 1);
-    assert_eq!(rt; table.block_index(b"p", Number::new(1, 1)), 2);
+    let bytes = Vec::from_slice(alloc, devices.table_bytes(ONE).ok_or("no table")?)?;
+    let mut indexes = [0; 5];
+    for i in 0..5 {
+        let (key, number) = keys[i];
+        indexes[i] = table.block_index(key, number);
+    }
+    let none = Number::new(0, 0);
+    let blocks = [table.block_of(b"b", none), table.block_of(b"q", none)];
+    Ok((bytes, table.blocks(), indexes, blocks))
+}
+
+#[test]
+fn a_table_of_one_put_has_these_bytes(rt: HostRuntime) -> Result<(), Fail> {
+    let (bytes, row, holds) = written_one(rt.alloc())?;
+    assert_eq!(rt; bytes.as_slice(), TABLE.as_slice());
+    assert_eq!(rt; row, (111, 1, 2, 2, Number::new(1, 1)));
+    assert_eq!(rt; holds, [true, true, false]);
     Ok(())
 }
 
 #[test]
-fn a_full_block_is_closed(rt: HostRuntime) -> Result<(), Fail> {
-    let alloc = rt.alloc();
-    let mut devices = MemDevices::new(alloc, Plans::empty(alloc))?;
-    let mut maker = devices.maker()?;
-    let made = write_two(alloc, &mut maker);
-    devices.back_maker(maker);
-    let table = made?;
-    let bytes = devices.table_bytes(ONE).ok_or("no table")?;
+fn a_full_block_is_closed_and_found(rt: HostRuntime) -> Result<(), Fail> {
+    let keys: [(&[u8], Number); 5] = [
+        (b"", Number::new(0, 0)),
+        (b"a", Number::new(1, 1)),
+        (b"a", Number::new(1, 0)),
+        (b"p", Number::new(1, 2)),
+        (b"p", Number::new(1, 1)),
+    ];
+    let (bytes, blocks, indexes, places) = written_two(rt.alloc(), keys)?;
     assert_eq!(rt; bytes.len(), 401);
-    assert_eq!(rt; table.blocks(), 2);
-    assert_eq!(rt; table.block_of(b"b", Number::new(0, 0)), Some((267, 28)));
-    assert_eq!(rt; table.block_of(b"q", Number::new(0, 0)), None);
+    assert_eq!(rt; blocks, 2);
+    assert_eq!(rt; indexes, [0, 0, 1, 1, 2]);
+    assert_eq!(rt; places, [Some((267, 28)), None]);
     assert_eq!(rt; Block::read(&bytes[267..295])?.len(), 1);
     Ok(())
 }
@@ -147,7 +162,11 @@ fn a_table_is_opened_where_footer_index_and_filter_agree(rt: HostRuntime) -> Res
     let alloc = rt.alloc();
     assert_eq!(rt; opened(alloc, &TABLE)?, Told::Opened(1));
     assert_eq!(rt; opened(alloc, &TABLE[..110])?, Told::Damaged(110));
-    // A block and the filter's bits, the count of items, a place, a length, a key's length, a number; then the footer's parts.
+    // Behind place 63 the footer ends early; before it ends before it begins.
+    assert_eq!(rt; opened(alloc, &TABLE[..64])?, Told::Damaged(64));
+    assert_eq!(rt; opened(alloc, &TABLE[..40])?, Told::Damaged(63));
+    // A block and the filter's bits, the count of items, a place, a length, a key's length, a number;
+    // then the footer's parts.
     for (at, value, want) in [
         (13, 2, Told::Opened(1)),
         (60, 1, Told::Opened(1)),
