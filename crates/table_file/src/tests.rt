@@ -74,26 +74,29 @@ fn written_one(alloc: Global) -> Result<(Vec<u8>, RowTold, [bool; 3]), Fail> {
     ))
 }
 
-/// The bytes of the table of two puts, how many blocks it has, the indexes of these keys and numbers, and
-/// the blocks of `b` and `q`.
-fn written_two(
-    alloc: Global,
-    keys: [(&[u8], Number); 5],
-) -> Result<(Vec<u8>, usize, [usize; 5], [Option<(u64, u32)>; 2]), Fail> {
+/// What is told of the table of two puts: its bytes, how many blocks it has, the indexes of no key, of `a`
+/// at its number and below, of `p` above its number and at it, and the blocks of `b` and `q`.
+type TwoTold = (Vec<u8>, usize, [usize; 5], [Option<(u64, u32)>; 2]);
+
+fn written_two(alloc: Global) -> Result<TwoTold, Fail> {
     let mut devices = MemDevices::new(alloc, Plans::empty(alloc))?;
     let mut maker = devices.maker()?;
     let made = write_two(alloc, &mut maker);
     devices.back_maker(maker);
     let table = made?;
     let bytes = Vec::from_slice(alloc, devices.table_bytes(ONE).ok_or("no table")?)?;
-    let mut indexes = [0; 5];
-    for i in 0..5 {
-        let (key, number) = keys[i];
-        indexes[i] = table.block_index(key, number);
-    }
-    let none = Number::new(0, 0);
-    let blocks = [table.block_of(b"b", none), table.block_of(b"q", none)];
-    Ok((bytes, table.blocks(), indexes, blocks))
+    let indexes = [
+        table.block_index(b"", Number::new(0, 0)),
+        table.block_index(b"a", Number::new(1, 1)),
+        table.block_index(b"a", Number::new(1, 0)),
+        table.block_index(b"p", Number::new(1, 2)),
+        table.block_index(b"p", Number::new(1, 1)),
+    ];
+    let places = [
+        table.block_of(b"b", Number::new(0, 0)),
+        table.block_of(b"q", Number::new(0, 0)),
+    ];
+    Ok((bytes, table.blocks(), indexes, places))
 }
 
 #[test]
@@ -107,14 +110,7 @@ fn a_table_of_one_put_has_these_bytes(rt: HostRuntime) -> Result<(), Fail> {
 
 #[test]
 fn a_full_block_is_closed_and_found(rt: HostRuntime) -> Result<(), Fail> {
-    let keys: [(&[u8], Number); 5] = [
-        (b"", Number::new(0, 0)),
-        (b"a", Number::new(1, 1)),
-        (b"a", Number::new(1, 0)),
-        (b"p", Number::new(1, 2)),
-        (b"p", Number::new(1, 1)),
-    ];
-    let (bytes, blocks, indexes, places) = written_two(rt.alloc(), keys)?;
+    let (bytes, blocks, indexes, places) = written_two(rt.alloc())?;
     assert_eq!(rt; bytes.len(), 401);
     assert_eq!(rt; blocks, 2);
     assert_eq!(rt; indexes, [0, 0, 1, 1, 2]);
