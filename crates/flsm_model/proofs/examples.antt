@@ -4,4 +4,6 @@ pub mod ExampleRecords
 pub mod ExampleHistories
 pub mod ExamplePicks
 pub mod Refused
+pub mod RefusedJobs
+pub mod Untold
 pub mod ExampleSessions

@@ -10,3 +10,6 @@ pub mod Outcomes
 pub mod Stays
 pub mod Committed
 pub mod Settling
+pub mod Stopping
+pub mod Ending
+pub mod Lessening

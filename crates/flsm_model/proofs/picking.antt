@@ -2,3 +2,4 @@
 pub mod Picks
 pub mod Lawful
 pub mod Needs
+pub mod PicksSettle

@@ -24,15 +24,15 @@ IsOutcomeOfOne o w n rs e = (actor : ℕ) × IsSomeAnd (job_of rs actor) (λ j. 
 abbrev pub last_running : Session → List Running
 last_running n = unwrap_or n.faulted n.running
 
+-- a stop may come here: at the end of a batch, or, where nothing is known of what tables hold, at
+-- the last flush
+abbrev pub is_end : Standing → ℕ → Bool
+is_end w m = is_boundary m w.batches || (not w.told && m == w.tree.shape.to)
+
 -- a stop may leave the edit that was being appended
 abbrev pub MayStopWith : Column → Standing → Session → Option Edit → Type 0
 MayStopWith o w n None = ⊤
 MayStopWith o w n (Some e) = IsOutcomeOfOne o w n (last_running n) e
-
--- a stop cuts the batches before all, or at the end of one; where contents aren't known also at the
--- last flush, since batches that were flushed aren't read
-abbrev pub may_cut_at : Standing → ℕ → Bool
-may_cut_at w m = is_boundary m w.batches || (not w.told && m == w.tree.shape.to)
 
 -- how many snapshots an actor holds
 abbrev pub holds_of : ℕ → List (ℕ × ℕ) → ℕ
@@ -56,10 +56,9 @@ AllowedIn o w n (Begin actor job) =
 AllowedIn o w n (Done actor e) =
     (n.faulted ≡ None) × IsSomeAnd (job_of n.running actor) (λ j. IsOutcome o w n j e)
 AllowedIn o w n (Short actor cause bytes) =
-    IsSomeAnd (job_of n.running actor)
-    (λ j. w.told ≡ true → bytes ≤ total (table_length o) (outcome o w n j))
+    IsSomeAnd (job_of n.running actor) (λ j. w.told ≡ true → bytes ≤ total (table_length o) (outcome o w n j))
 AllowedIn o w n JournalFault = n.faulted ≡ None
-AllowedIn o w n (Stop m e) = (may_cut_at w m ≡ true) × (n.stable ≤ m) × MayStopWith o w n e
+AllowedIn o w n (Stop m e) = (is_end w m ≡ true) × (n.stable ≤ m) × MayStopWith o w n e
 
 -- what the event needs: an opening comes where no session is open, every other event within one
 abbrev pub Allowed : Column → Standing → Option Session → Event → Type 0

@@ -31,3 +31,4 @@ pub mod Picked
 pub mod Contents
 pub mod Candidates
 pub mod GuardRanges
+pub mod PickedSettles

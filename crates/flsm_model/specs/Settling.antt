@@ -1,7 +1,4 @@
 -- How much there is to do until the store is settled.
-use Rattle.flsm_model.specs.declared.job_kind.JobKind.TheVariants.{Flush as FlushJob}
-use Rattle.flsm_model.specs.declared.job.Job.{Job}
-use Rattle.flsm_model.specs.Picking.{picked}
 use Rattle.std.specs.Prelude.{◌≡◌, ℕ, zero, suc, ◌+◌, ◌*◌, ◌<◌, ◌≤◌, true, ◌&&◌, not, if◌then◌else◌, List, [], ◌∷◌, ◌++◌, length, nat_lt, nat_le, ◌==◌, ◌⊎◌, ⊤, Some}
 use Rattle.peb_base.specs.Members.{IsIn}
 use Rattle.peb_base.specs.Profiles.{column, Column}
@@ -11,11 +8,11 @@ use Rattle.peb_base.specs.declared.table_row.TableRow.{TableRow}
 use Rattle.flsm_model.specs.declared.chosen.Chosen.{Chosen}
 use Rattle.flsm_model.specs.declared.edit.Edit.{Edit}
 use Rattle.flsm_model.specs.declared.edit.Edit.TheVariants.{Open, Flush, Move, Cut, Merge}
-use Rattle.flsm_model.specs.Shape.{Record, Shape, rows_numbered, outputs_of, shape_of}
+use Rattle.flsm_model.specs.Shape.{Record, Shape, rows_numbered, outputs_of, shape_after, shape_of}
 use Rattle.flsm_model.specs.Fits.{is_guard, is_legal_record}
 use Rattle.flsm_model.specs.Writes.{total, one_if}
 use Rattle.flsm_model.specs.Events.{Session, Standing, Running}
-use Rattle.flsm_model.specs.Outcomes.{frozen_entries, IsOutcome, IsFormed}
+use Rattle.flsm_model.specs.Outcomes.{frozen_entries, IsOutcome}
 
 -- the sum over the numbers up to this one
 abbrev pub sum_to : (ℕ → ℕ) → ℕ → ℕ
@@ -120,9 +117,16 @@ OutcomesConserve o w =
     → IsOutcome o w n r.1 e
     → entries_in (outputs_of e) ≤ entries_taken w.tree.shape (entries_frozen w n) e
 
--- each edit that the picked job may make has work, a Flush where it has entries
-abbrev pub PickedHasWork : Column → Standing → Type 0
-PickedHasWork o w =
-    (n : Session) → w.session ≡ Some n → (j : Job) → picked o w n ≡ Some j
-    → (frozen : ℕ) → (j.kind ≡ FlushJob → 0 < frozen)
-    → (e : Edit) → IsFormed o w.tree.shape n j e → HasWork o w.tree.shape frozen e
+-- the edit leaves less to do than there is now
+abbrev pub LeavesLess : Column → Standing → Session → Edit → Type 0
+LeavesLess o w n e =
+    Lessens o (entries_frozen w n) w.tree.shape (frozen_after (entries_frozen w n) e)
+    (shape_after w.tree.shape e)
+
+-- each outcome of a job in flight that has work leaves less to do
+abbrev pub OutcomesSettle : Column → Standing → Type 0
+OutcomesSettle o w =
+    (n : Session) → w.session ≡ Some n → (r : Running) → IsIn r n.running → (e : Edit)
+    → IsOutcome o w n r.1 e
+    → HasWork o w.tree.shape (entries_frozen w n) e
+    → LeavesLess o w n e

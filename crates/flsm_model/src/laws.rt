@@ -10,17 +10,18 @@ ghost use Rattle.flsm_model.specs.Legal.{Always, AlwaysFormed};
 ghost use Rattle.flsm_model.specs.Placing.{OnePlace, OrderHolds, PlaceInGuards, AlwaysCut};
 ghost use Rattle.flsm_model.specs.Bounds.{WrittenOnce, RecordBound};
 ghost use Rattle.flsm_model.specs.Reading.{MapHolds, MapShows};
-ghost use Rattle.flsm_model.specs.Stops.{RecordIsLegal, EndsWithSession, RecordIsTrue, StopLeavesBase};
+ghost use Rattle.flsm_model.specs.Stops.{RecordIsLegal, AlwaysEndsWithSession, RecordIsTrue, StopLeavesBase, StopsAtLast};
 ghost use Rattle.flsm_model.specs.Undisturbed.{JobsUndisturbed};
 ghost use Rattle.flsm_model.specs.Made.{OutcomesFit, OutcomesStay};
 ghost use Rattle.flsm_model.specs.LastLevel.{WrittenByMerges};
 ghost use Rattle.flsm_model.specs.Fronts.{EmptyIsTrue, FrontsAreLegal, MarksInOrder};
-ghost use Rattle.flsm_model.specs.Settling.{EditsSettle, MeasureFalls, OutcomesConserve, PickedHasWork};
+ghost use Rattle.flsm_model.specs.Settling.{EditsSettle, MeasureFalls, OutcomesConserve, OutcomesSettle};
 ghost use Rattle.flsm_model.specs.Picked.{PickedIsLawful, IdleHasRoom, ChosenAscend, AscendingAreEqual};
+ghost use Rattle.flsm_model.specs.PickedSettles.{PickedSettles, PickedHasWork};
 ghost use Rattle.flsm_model.specs.Candidates.{CandidatesMeet};
 ghost use Rattle.flsm_model.specs.Claims.{FreeByClaims};
 ghost use Rattle.flsm_model.specs.GuardRanges.{RangeIsOfGuard, RangesPartKeys, RowsLieInRanges, NewGuardIsInserted};
-ghost use Rattle.flsm_model.specs.Contents.{TablesStand, NewestIsShown};
+ghost use Rattle.flsm_model.specs.Contents.{TablesStand, NewestIsShown, NewestIsInMap};
 ghost use Rattle.flsm_model.specs.Sound.{RecordsSound, RecordsNested, RecordsBounded};
 
 /// Each entry is in one live table at most.
@@ -57,18 +58,19 @@ pub fn law_bound()
 {}
 
 /// The record is legal, and true of the batches where contents are known; the tree is the one that
-/// the record spells. It ends with the opening of the open session and the edits that it made, and
-/// the last attempts are the jobs that it cut short.
+/// the record spells. It ends with the open session's opening and the edits of its jobs since, and
+/// the attempts end with its jobs that were cut short, each with its level and its bytes.
 pub fn law_record()
     ensures legal { AlwaysFormed RecordIsLegal }
     ensures holds { Always RecordIsTrue }
-    ensures session { AlwaysFormed EndsWithSession }
+    ensures session { AlwaysEndsWithSession }
 {}
 
 /// What stands where no session is open is a true base, and below the limit of sessions the next
-/// one may be opened.
+/// one may be opened. An open session may stop at any moment, at the last number.
 pub fn law_stop()
-    ensures { Always StopLeavesBase }
+    ensures base { Always StopLeavesBase }
+    ensures last { AlwaysFormed StopsAtLast }
 {}
 
 /// No claims of two jobs in flight conflict, and each such job still has its range, its inputs, its
@@ -111,13 +113,16 @@ pub fn law_marks()
 
 /// An edit that has work, and writes no more entries than it takes, leaves less to do until the
 /// store is settled: fewer levels to go, or else fewer candidates without a guard, or else fewer
-/// tables in the last level. Outcomes write no more than their jobs take, and what a picked job
-/// makes has work.
+/// tables in the last level. Outcomes write no more than their jobs take, so that each one that has
+/// work leaves less to do; what the job that is picked makes always does, and has work over any
+/// device.
 pub fn law_settles()
     ensures edits { EditsSettle }
     ensures measure { MeasureFalls }
     ensures outcomes { Always OutcomesConserve }
-    ensures picked { AlwaysFormed PickedHasWork }
+    ensures less { Always OutcomesSettle }
+    ensures picked { Always PickedSettles }
+    ensures work { AlwaysFormed PickedHasWork }
 {}
 
 /// A job that is picked may begin, if the session has table numbers left for it.
@@ -131,16 +136,17 @@ pub fn law_idle()
     ensures { AlwaysFormed IdleHasRoom }
 {}
 
-/// The rows of the live tables are the live ones, in their order; each tells of its table, and each
-/// table's entries ascend. Among the entries of tables and memtables, numbers differ, so
-/// [`law_lookup`] speaks of what they show.
+/// The rows of the live tables are the live ones, in their order; each tells of its table, each
+/// table's entries ascend, and no two entries of tables and memtables have one number.
 pub fn law_tables()
     ensures { Always TablesStand }
 {}
 
-/// A key's value in what entries show at a number is that of its newest entry at or below it.
+/// A key's value in what entries show at a number is that of its newest entry at or below it. So it
+/// is in the ordered map at a number that is read, by the entries of tables and memtables.
 pub fn law_lookup()
-    ensures { NewestIsShown }
+    ensures shown { NewestIsShown }
+    ensures map { Always NewestIsInMap }
 {}
 
 /// Where each key stands with the shallowest level that it meets, as those of a legal record do,

@@ -184,11 +184,11 @@ merge_conserves o bs t floor whole inputs outputs d r c a =
 
 -- ---- over a history
 
-counted_from : (o : Column) (bs : Batches) (t : Tree) (r : Record) → DescribedFrom o bs t r → Counted t.tables → Counted (tree_from o bs t r).tables
+pub counted_from : (o : Column) (bs : Batches) (t : Tree) (r : Record) → DescribedFrom o bs t r → Counted t.tables → Counted (tree_from o bs t r).tables
 counted_from o bs t [] d c = c
 counted_from o bs t (e ∷ es) d c = counted_from o bs (tree_after o bs t e) es d.2 (counted_step o bs t e d.0 c)
 
-conserves : (o : Column) (w : Standing) (n : Session) (j : Job) (e : Edit) → All o w → IsOutcome o w n j e → Counted w.tree.tables
+pub conserves : (o : Column) (w : Standing) (n : Session) (j : Job) (e : Edit) → All o w → IsOutcome o w n j e → Counted w.tree.tables
     → entries_in (outputs_of e) ≤ entries_taken w.tree.shape (entries_frozen w n) e
 conserves o w n j e al out c = by (edit_is n j e out.formed.same)
   where

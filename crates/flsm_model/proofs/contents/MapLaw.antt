@@ -1,7 +1,8 @@
 -- The law of the map over whole histories.
-use Rattle.std.proofs.Common.{◌≡◌, ℕ, ◌+◌, ◌<◌, ◌≤◌, false, not, List, [], ◌∷◌, ◌++◌, length, ◌⊎◌, inl, inr, refl, sym, ap, subst, arith, true}
+use Rattle.std.proofs.Common.{◌≡◌, ℕ, ◌+◌, ◌<◌, ◌≤◌, false, not, List, [], ◌∷◌, ◌++◌, length, ◌⊎◌, inl, inr, refl, sym, ◌∙◌, ap, subst, arith, true, ◌&&◌}
+use Rattle.std.proofs.lemmas.Bool.{and_parts, or_cases, true≢false}
 use Rattle.std.specs.Prelude.{◌==◌, ◌↔◌, Option, Some, None, option_map, unwrap_or, ⊤}
-use Rattle.peb_base.specs.Batches.{Batches, batches_to, last_number}
+use Rattle.peb_base.specs.Batches.{Batches, batches_to, is_boundary, last_number}
 use Rattle.peb_base.specs.declared.entry.Entry.{Entry}
 use Rattle.peb_base.specs.Profiles.{Column}
 use Rattle.flsm_model.specs.declared.edit.Edit.{Edit}
@@ -14,13 +15,13 @@ use Rattle.flsm_model.specs.Trees.{Table, Tree, tree_after, tables_without}
 use Rattle.flsm_model.specs.Events.{Event, Opened, Commit, Synced, Look, Hold, Release, Freeze, Begin, Done, Short, JournalFault, Stop, Session, Standing, Running, last_of}
 use Rattle.flsm_model.specs.Jobs.{floor_of, IsLawful}
 use Rattle.flsm_model.specs.Steps.{frozen_left, without_job, running_of, shorts_of, step, run}
-use Rattle.flsm_model.specs.Legal.{last_running, Allowed}
+use Rattle.flsm_model.specs.Legal.{last_running, is_end, Allowed}
 use Rattle.flsm_model.specs.Outcomes.{IsEditOf, IsOutcome}
 use Rattle.flsm_model.proofs.lists.Members.{IsIn}
 use Rattle.flsm_model.proofs.contents.Falls.{after, is_fresh, InFlight}
 use Rattle.flsm_model.proofs.contents.Begin.{row_in}
 use Rattle.flsm_model.proofs.contents.Orders.{Sound}
-use Rattle.flsm_model.proofs.histories.Histories.{Holds, JobsHold, job_in, last_jobs, fresh_rows, within, cut_at_end}
+use Rattle.flsm_model.proofs.histories.Histories.{Holds, JobsHold, job_in, last_jobs, fresh_rows, within}
 use Rattle.flsm_model.proofs.contents.Places.{Placed, Within}
 use Rattle.flsm_model.proofs.contents.Covers.{Live, OneByNumber, one_step, newest_same}
 use Rattle.flsm_model.proofs.contents.Maps.{Flushed}
@@ -159,6 +160,16 @@ pub last_grows : (bs cs : Batches) → last_number bs ≤ last_number (bs ++ cs)
 last_grows [] cs = omega arith
 last_grows (b ∷ bs) cs = omega (arith, last_grows bs cs)
 
+-- where contents are known, a stop comes at the end of a batch
+pub end_of_batch : (w : Standing) (m : ℕ) → w.told ≡ true → is_end w m ≡ true → is_boundary m w.batches ≡ true
+end_of_batch w m told h = elim (or_cases (is_boundary m w.batches) (not w.told && m == w.tree.shape.to) h) [
+  | inl b ↦ b
+  | inr u ↦ absurd (unknown (and_parts (not w.told) (m == w.tree.shape.to) u).0)
+]
+  where
+    unknown : not w.told ≡ true → ⊥
+    unknown n = true≢false (sym n ∙ ap not told)
+
 pub shows_step : (o : Column) (w : Standing) (e : Event) → Holds o w → Placed o w → Shows o w → Allowed o w w.session e → Shows o (step o w e)
 shows_step o w (Opened session log) hold pl h a = by w.session a
   where
@@ -278,9 +289,9 @@ shows_step o w (Stop k None) hold pl h a = by w.session a h.session
         record {
           one = h.one;
           levels = h.levels;
-          to_last = to_kept w.batches k w.tree.shape.to pl.ordered (cut_at_end w k hold.tells x.0) low;
+          to_last = to_kept w.batches k w.tree.shape.to pl.ordered (end_of_batch w k hold.tells x.0) low;
           session = tt;
-          shown = λ m at. same_batches w.tree w.batches (batches_to k w.batches) m (dropped_same w.batches k w.tree.shape.to pl.ordered (cut_at_end w k hold.tells x.0) low) (h.shown m (elim at [ inl b ↦ inl b | inr b ↦ absurd b ]));
+          shown = λ m at. same_batches w.tree w.batches (batches_to k w.batches) m (dropped_same w.batches k w.tree.shape.to pl.ordered (end_of_batch w k hold.tells x.0) low) (h.shown m (elim at [ inl b ↦ inl b | inr b ↦ absurd b ]));
         }
 shows_step o w (Stop k (Some e)) hold pl h a = by w.session refl a hold.jobs h.session
   where
@@ -294,8 +305,8 @@ shows_step o w (Stop k (Some e)) hold pl h a = by w.session refl a hold.jobs h.s
         record {
           one = one_step o w.batches w.tree e (fresh_rows o w.tree.shape e out.2.formed.fit) (known_tables o w.tree hold.sound) h.one;
           levels = levels_step o w.batches w.tree e out.2.formed.fit h.levels;
-          to_last = to_kept w.batches k (tree_after o w.batches w.tree e).shape.to pl.ordered (cut_at_end w k hold.tells x.0) low;
+          to_last = to_kept w.batches k (tree_after o w.batches w.tree e).shape.to pl.ordered (end_of_batch w k hold.tells x.0) low;
           session = tt;
-          shown = λ m at. same_batches (tree_after o w.batches w.tree e) w.batches (batches_to k w.batches) m (dropped_same w.batches k (tree_after o w.batches w.tree e).shape.to pl.ordered (cut_at_end w k hold.tells x.0) low)
+          shown = λ m at. same_batches (tree_after o w.batches w.tree e) w.batches (batches_to k w.batches) m (dropped_same w.batches k (tree_after o w.batches w.tree e).shape.to pl.ordered (end_of_batch w k hold.tells x.0) low)
               (outcome_step o w n (last_running n) x.2.0 out.0 e hold.tells out.2 hold.sound mine out.1 (last_floors n.faulted n.running _ y.floors y.faults) eq h m (inl (elim at [ inl b ↦ b | inr b ↦ absurd b ])));
         }

@@ -1,7 +1,6 @@
 -- Live tables hold entries in their strict order; what entries show at a key.
-use Rattle.flsm_model.specs.Shown.{all_entries, in_memory}
 use Rattle.std.proofs.Common.{◌≡◌, ℕ, ◌<◌, ◌≤◌, true, not, List, [], ◌∷◌, inl, inr, refl, sym, ◌∙◌, ap, subst, arith}
-use Rattle.std.specs.Prelude.{◌==◌, nat_le, filter, None, ◌++◌, nat_lt}
+use Rattle.std.specs.Prelude.{◌==◌, nat_lt, nat_le, filter, None}
 use Rattle.std.proofs.lemmas.Bool.{and_from, or_left, or_right, cases_Bool, eq-eqb, leb-true, le-leb, lt-ltb, cases_lt}
 use Rattle.peb_base.specs.Keys.{Bytes, key_lt, key_eq}
 use Rattle.peb_base.specs.KeyLaws.{same_key}
@@ -15,8 +14,9 @@ use Rattle.flsm_model.specs.Shape.{Record, outputs_of}
 use Rattle.flsm_model.specs.Trees.{Describes, Table, Tree, contents, tree_after, tree_from, empty_tree}
 use Rattle.flsm_model.specs.TrueRecord.{DescribedFrom, IsNewest}
 use Rattle.flsm_model.specs.Writes.{copies, copies_in, one_if}
-use Rattle.flsm_model.specs.Contents.{TablesStand, put_value, NewestIsShown}
-use Rattle.flsm_model.specs.Events.{base}
+use Rattle.flsm_model.specs.Contents.{TablesStand, NumbersDiffer, entries_here, put_value, LooksUp, NewestIsShown, NewestIsInMap}
+use Rattle.flsm_model.specs.Events.{Standing, base}
+use Rattle.flsm_model.specs.Shown.{all_entries, in_memory}
 use Rattle.flsm_model.specs.Legal.{Always}
 use Rattle.flsm_model.specs.Steps.{run}
 use Rattle.peb_base.specs.Map.{lookup}
@@ -24,14 +24,14 @@ use Rattle.peb_base.specs.Shown.{shown, firsts}
 use Rattle.flsm_model.proofs.contents.Base.{deep}
 use Rattle.flsm_model.proofs.contents.Covers.{sorted_has}
 use Rattle.flsm_model.proofs.contents.Falls.{after}
-use Rattle.flsm_model.proofs.contents.MapList.{Sourced, sourced_from}
+use Rattle.flsm_model.proofs.contents.MapList.{Sourced, sourced_from, map_shows}
 use Rattle.flsm_model.proofs.lists.Members.{in_sorted}
-use Rattle.flsm_model.proofs.lists.Newest.{first_at, firsts_first, KeysRise, firsts_rise, lookup_puts, Found, Nowhere, At, found_first, Falling, falling_in_order, same_number, rising_entries}
+use Rattle.flsm_model.proofs.lists.Newest.{Rising, rising_entries, same_number, first_at, firsts_first, KeysRise, firsts_rise, lookup_puts, Found, Nowhere, At, found_first, Falling, falling_in_order}
 use Rattle.flsm_model.proofs.contents.Places.{one_place}
 use Rattle.flsm_model.proofs.contents.Sorts.{Sorted, sorted_in_order, of_step, described}
 use Rattle.flsm_model.proofs.histories.Truth.{All, all_run, all_base}
 use Rattle.flsm_model.proofs.guards.NewRows.{le_ne_lt}
-use Rattle.flsm_model.proofs.lists.Lists.{in_filter, in_kept, each_before-filter, in_append, in_flat}
+use Rattle.flsm_model.proofs.lists.Lists.{in_append, in_flat, in_filter, in_kept, each_before-filter}
 
 -- ---- numbers fall along each key
 
@@ -97,12 +97,15 @@ strict_from k n (e ∷ es) entry so fa one after = (
           absurd (omega (arith, two, copies_here x es i, one x (inr i)))
     ]
 
--- an entry of a table or of a memtable is one of the batches
-from_batches : (bs : Batches) (t : Tree) (to : ℕ) → Sourced bs t → (x : Entry) → IsIn x (all_entries t.tables ++ in_memory bs to) → IsIn x (entries_of bs)
-from_batches bs t to src x i = elim (in_append x (all_entries t.tables) (in_memory bs to) i) [
-  | inl a ↦ let u = in_flat (λ (v : Table). v.entries) x t.tables a in src.source u.0 x u.1 u.2
-  | inr b ↦ (in_filter (λ (z : Entry). nat_lt to z.number) x (entries_of bs) b).0
-]
+-- the entries of tables and memtables are those of batches, of which no two have one number
+here_differ : (w : Standing) → Sourced w.batches w.tree → Rising (entries_of w.batches) → NumbersDiffer (entries_here w)
+here_differ w src rising x y i k same = same_number (entries_of w.batches) x y rising (from x i) (from y k) same
+  where
+    from : (z : Entry) → IsIn z (entries_here w) → IsIn z (entries_of w.batches)
+    from z i = elim (in_append z (all_entries w.tree.tables) (in_memory w.batches w.tree.shape.to) i) [
+      | inl a ↦ let u = in_flat (λ (t : Table). t.entries) z w.tree.tables a in src.source u.0 z u.1 u.2
+      | inr b ↦ (in_filter (λ (e : Entry). nat_lt w.tree.shape.to e.number) z (entries_of w.batches) b).0
+    ]
 
 pub tables_stand : Always TablesStand
 tables_stand p bs r h base_true legal =
@@ -118,8 +121,7 @@ tables_stand p bs r h base_true legal =
       sorted = λ entries t i. strict_from [] 0 t.entries (λ x m. entries x (src.source t x i m)) (al.holds.sound.sorted.sorted t i) (falls t i)
           (λ x m. omega (arith, copies_table x.number t w.tree.tables i, one_place p bs r h base_true legal x.number))
           (λ x m. after_none x (entries x (src.source t x i m)));
-      differ = λ x y i j same. same_number (entries_of w.batches) x y (rising_entries 0 w.batches al.placed.ordered)
-          (from_batches w.batches w.tree w.tree.shape.to src x i) (from_batches w.batches w.tree w.tree.shape.to src y j) same;
+      differ = here_differ w src (rising_entries 0 w.batches al.placed.ordered);
     }
 
 -- ---- look-ups
@@ -161,3 +163,8 @@ newest_is_shown es n differ = record { found = found; absent = absent }
         by : Found low k (first_at k low) → first_at k low ≡ None
         by (Nowhere none q) = q
         by (At y i s q m) = let p = in_low y i in absurd (never y p.0 p.1 s)
+
+pub newest_is_in_map : Always NewestIsInMap
+newest_is_in_map p bs r h base_true legal n eq m rd =
+    let w = run (column p) (base true (column p) bs r) h in
+    subst (LooksUp (entries_here w) m) ((map_shows p bs r h base_true legal).read n eq m rd) (newest_is_shown (entries_here w) m (tables_stand p bs r h base_true legal).differ)

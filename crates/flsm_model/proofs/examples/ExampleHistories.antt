@@ -19,16 +19,16 @@ use Rattle.flsm_model.proofs.examples.Samples.{small, n, put, delete, row, descr
 
 -- one fact, and those of the further events
 infixr 5 ◌then◌
-abbrev ◌then◌ : {A B : Type 0} → A → B → A × B
+abbrev pub ◌then◌ : {A B : Type 0} → A → B → A × B
 ◌then◌ first rest = (first, rest)
 
-abbrev one_put : ℕ → ℕ → List Op
+abbrev pub one_put : ℕ → ℕ → List Op
 one_put key value = record { key = key ∷ []; change = Put (value ∷ []) } ∷ []
 
 abbrev one_deletion : ℕ → List Op
 one_deletion key = record { key = key ∷ []; change = Delete } ∷ []
 
-abbrev flush_job : ℕ → ℕ → Job
+abbrev pub flush_job : ℕ → ℕ → Job
 flush_job numbers floor = job FlushJob 0 [] [] numbers floor
 
 -- ---- a put that is read, snapshots, and a second opening
@@ -55,13 +55,13 @@ reads_are_legal =
 
 -- ---- jobs at once: a Cut of the last level runs beside a Flush, the other Cuts follow, and the Move finds its candidate cut
 
-abbrev cut_at : ℕ → Job
+abbrev pub cut_at : ℕ → Job
 cut_at level = job CutJob level [] (o_key ∷ []) 4 3
 
-abbrev move_three : Job
+abbrev pub move_three : Job
 move_three = job MoveJob 0 (n 1 ∷ n 2 ∷ n 3 ∷ []) (o_key ∷ []) 4 3
 
-abbrev at_once : List Event
+abbrev pub at_once : List Event
 at_once =
     Opened 1 1
     ∷ Commit 1 (n 1) (one_put 97 49) ∷ Freeze (n 1) ∷ Begin 2 (flush_job 1 1)
@@ -186,7 +186,7 @@ no_table_is_left = refl
 
 -- ---- a flush that is cut short, and one whose edit a stop leaves
 
-abbrev stops : List Event
+abbrev pub stops : List Event
 stops =
     Opened 1 1
     ∷ Commit 1 (n 1) (one_put 97 49) ∷ Freeze (n 1)

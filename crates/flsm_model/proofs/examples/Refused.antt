@@ -3,6 +3,7 @@ use Rattle.std.proofs.Common.{false, ◌≡◌, ℕ, true, List, [], ◌∷◌, 
 use Rattle.std.specs.Prelude.{replicate}
 use Rattle.std.proofs.lemmas.Bool.{true≢false, false≢true}
 use Rattle.std.proofs.lemmas.List.{length-replicate}
+use Rattle.peb_base.specs.Numbers.{number_of}
 use Rattle.peb_base.specs.Tables.{table_length}
 use Rattle.peb_base.specs.declared.change.Change.TheVariants.{Put}
 use Rattle.peb_base.specs.declared.op.Op.{Op}
@@ -67,6 +68,34 @@ no_stop_below_a_freeze h = omega (arith, h.1)
 a_stop_before_a_sync : May [] (Stop 0 None)
 a_stop_before_a_sync = (refl, omega arith, tt)
 
+-- an opening makes stable what it finds, synced or not
+no_stop_below_an_opening : May (Stop (n 1) None ∷ Opened 2 1 ∷ []) (Stop 0 None) → ⊥
+no_stop_below_an_opening h = omega (arith, h.1)
+
+a_stop_at_an_opening : May (Stop (n 1) None ∷ Opened 2 1 ∷ []) (Stop (n 1) None)
+a_stop_at_an_opening = (refl, omega arith, tt)
+
+-- what is synced later leaves what was stable before
+no_stop_below_an_earlier_sync : May (Synced 1 (n 1) ∷ Commit 1 (n 2) (one_put ∷ []) ∷ []) (Stop 0 None) → ⊥
+no_stop_below_an_earlier_sync h = omega (arith, h.1)
+
+a_stop_at_an_earlier_sync : May (Synced 1 (n 1) ∷ Commit 1 (n 2) (one_put ∷ []) ∷ []) (Stop (n 1) None)
+a_stop_at_an_earlier_sync = (refl, omega arith, tt)
+
+-- a stop past the last batch has nothing to leave
+no_stop_above_the_last : May [] (Stop (n 2) None) → ⊥
+no_stop_above_the_last h = true≢false (sym h.0)
+
+-- a stop drops the batches above its number, and no others
+a_stop_drops_what_is_above : (after (Commit 1 (n 2) (one_put ∷ []) ∷ Stop (n 1) None ∷ [])).batches ≡ (n 1, one_put ∷ []) ∷ []
+a_stop_drops_what_is_above = refl
+
+a_stop_leaves_nothing_at_0 : (after (Commit 1 (n 2) (one_put ∷ []) ∷ Stop 0 None ∷ [])).batches ≡ []
+a_stop_leaves_nothing_at_0 = refl
+
+no_stop_without_a_session : Allowed small (after (Stop (n 1) None ∷ [])) None (Stop (n 1) None) → ⊥
+no_stop_without_a_session h = h
+
 -- a stop comes between batches
 no_stop_within_a_batch : Allowed small (after (Commit 1 (n 2) (one_put ∷ one_put ∷ []) ∷ [])) (after (Commit 1 (n 2) (one_put ∷ one_put ∷ []) ∷ [])).session (Stop (n 2) None) → ⊥
 no_stop_within_a_batch h = true≢false (sym h.0)
@@ -87,6 +116,16 @@ no_job_after_a_fault h = none_some [] h.0
 
 no_second_fault : May (JournalFault ∷ []) JournalFault → ⊥
 no_second_fault h = none_some [] h
+
+a_hold_after_a_fault : May (JournalFault ∷ []) (Hold 1 (n 1))
+a_hold_after_a_fault = (refl, omega arith)
+
+a_stop_after_a_fault : May (JournalFault ∷ []) (Stop 0 None)
+a_stop_after_a_fault = (refl, omega arith, tt)
+
+-- the next session has no fault
+a_commit_of_the_next_session : May (JournalFault ∷ Stop (n 1) None ∷ Opened 2 1 ∷ []) (Commit 1 (number_of 2 1) (one_put ∷ []))
+a_commit_of_the_next_session = (refl, omega arith, omega arith, refl, omega arith)
 
 a_look_after_a_fault : May (JournalFault ∷ []) (Look 1 (n 1))
 a_look_after_a_fault = refl

@@ -1,15 +1,13 @@
 -- Guards by their index, and by their ranges.
-use Rattle.std.proofs.Common.{◌≡◌, ℕ, zero, suc, Bool, true, false, not, ◌||◌, cond, List, [], ◌∷◌, length, refl, sym, ap, ◌∙◌, subst, arith}
+use Rattle.std.proofs.Common.{◌≡◌, ℕ, zero, suc, Bool, true, false, not, ◌||◌, cond, List, [], ◌∷◌, length, refl, sym, ap, ◌∙◌, arith}
 use Rattle.std.specs.Prelude.{◌↔◌, ◌≤◌, Option, Some, None}
 use Rattle.std.specs.List.{insert}
 use Rattle.std.proofs.lemmas.Bool.{and_parts, and_from, true≢false}
 use Rattle.flsm_model.proofs.guards.Guards.{least}
 use Rattle.peb_base.specs.Keys.{Bytes, key_lt, key_le, key_eq}
 use Rattle.peb_base.specs.KeyLaws.{le_lt, le_refl, le_trans, lt_le_weak}
-use Rattle.peb_base.specs.Guards.{Ascend, guard_of, is_guard, LiesIn}
-use Rattle.peb_base.specs.declared.table_row.TableRow.{TableRow}
-use Rattle.flsm_model.specs.Ranges.{is_below, in_range, with_key, range_of, range_after}
-use Rattle.flsm_model.specs.Fits.{lies_in}
+use Rattle.peb_base.specs.Guards.{Ascend, guard_of, is_guard}
+use Rattle.flsm_model.specs.Ranges.{is_below, in_range, with_key, range_after}
 use Rattle.flsm_model.specs.GuardRanges.{range_from, range_at, RangeIsOfGuard, RangesPartKeys, RowsLieInRanges, NewGuardIsInserted}
 
 range_after_is : (lo : Bytes) (keys : List Bytes) (key : Bytes) → range_after lo keys key ≡ range_from lo keys (guard_of key keys)

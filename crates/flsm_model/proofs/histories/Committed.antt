@@ -35,9 +35,9 @@ use Rattle.flsm_model.proofs.guards.Facts.{move_facts}
 use Rattle.flsm_model.proofs.contents.Falls.{after}
 use Rattle.flsm_model.proofs.contents.Begin.{keys_inside}
 use Rattle.flsm_model.proofs.contents.Beside.{no_input}
-use Rattle.flsm_model.proofs.histories.Histories.{JobsHold, JobsIn, job_in, fresh_rows, cut_at_end}
+use Rattle.flsm_model.proofs.histories.Histories.{JobsHold, JobsIn, job_in, fresh_rows}
 use Rattle.flsm_model.proofs.contents.Places.{Within, shape_same}
-use Rattle.flsm_model.proofs.contents.MapLaw.{SessionShows, to_after}
+use Rattle.flsm_model.proofs.contents.MapLaw.{SessionShows, to_after, end_of_batch}
 use Rattle.flsm_model.proofs.contents.Structure.{Agree, tree_same, installed_same, to_grows_from, agree_push}
 use Rattle.flsm_model.proofs.contents.Base.{deep}
 use Rattle.flsm_model.proofs.guards.GuardKeys.{guard_stays}
@@ -337,7 +337,7 @@ moves_step o r w (Stop m None) al ea h a = by w.session a al.shows.session
   where
     by : (s : Option Session) → Allowed o w s (Stop m None) → SessionShows w.tree.shape.to (last_number w.batches) s → MovesAreCut o r (step o w (Stop m None))
     by None x y = absurd x
-    by (Some n) x y = moves_batches o r w _ m refl (agree_drop 0 m w.batches al.placed.ordered (cut_at_end w m al.holds.tells x.0)) (omega (arith, y.stable, x.1)) al.told.books h
+    by (Some n) x y = moves_batches o r w _ m refl (agree_drop 0 m w.batches al.placed.ordered (end_of_batch w m al.holds.tells x.0)) (omega (arith, y.stable, x.1)) al.told.books h
 moves_step o r w (Stop m (Some e)) al ea h a = by w.session a ea al.shows.session
   where
     by : (s : Option Session) → Allowed o w s (Stop m (Some e)) → InEach (IsCutFor o) w.tree s → SessionShows w.tree.shape.to (last_number w.batches) s → MovesAreCut o r (step o w (Stop m (Some e)))
@@ -347,7 +347,7 @@ moves_step o r w (Stop m (Some e)) al ea h a = by w.session a ea al.shows.sessio
         let mid : Standing = with_edit o w e in
         let one : MovesAreCut o r mid = moves_edit o r w e mid refl refl al (cut_outcome o w n out.0 e al out.2 (last_each (IsCutFor o) w.tree n y (x.2.0, out.0) out.1)) h in
         let books : Books o mid.batches mid.edits mid.tree = books_edit o w.batches w.edits w.tree e al.told.books out.2.formed.fit (out.2.holds al.holds.tells) (out.2.chooses al.holds.tells) in
-        moves_batches o r mid _ m refl (agree_drop 0 m w.batches al.placed.ordered (cut_at_end w m al.holds.tells x.0)) (omega (arith, to_after o w n out.0 e out.2.formed.same z, x.1)) books one
+        moves_batches o r mid _ m refl (agree_drop 0 m w.batches al.placed.ordered (end_of_batch w m al.holds.tells x.0)) (omega (arith, to_after o w n out.0 e out.2.formed.same z, x.1)) books one
 
 -- ---- the law
 

@@ -1,9 +1,9 @@
 -- Every legal history keeps the order.
 use Rattle.std.proofs.Common.{◌≡◌, ℕ, ◌<◌, ◌≤◌, ◌≢◌, Bool, true, false, cond, ◌||◌, not, List, [], ◌∷◌, ◌++◌, map, ◌⊎◌, inl, inr, refl, sym, ◌∙◌, ap, subst, arith}
-use Rattle.std.specs.Prelude.{◌==◌, filter, Option, Some, None, IsSomeAnd, option_map, unwrap_or, ⊤, ◌&&◌}
+use Rattle.std.specs.Prelude.{◌==◌, filter, Option, Some, None, IsSomeAnd, option_map, unwrap_or, ⊤}
 use Rattle.std.specs.List.{AllZip}
-use Rattle.std.proofs.lemmas.Bool.{and_parts, and_right, eqb-true, eqb-false, eq-eqb, ne_eqb, ltb-true, not-true, or_cases, true≢false}
-use Rattle.peb_base.specs.Batches.{Batches, is_boundary}
+use Rattle.std.proofs.lemmas.Bool.{and_parts, and_right, eqb-true, eqb-false, eq-eqb, ne_eqb, ltb-true, not-true}
+use Rattle.peb_base.specs.Batches.{Batches}
 use Rattle.peb_base.specs.Numbers.{session_of}
 use Rattle.flsm_model.specs.Trees.{Describes, Table, Tree, contents, tree_after}
 use Rattle.peb_base.specs.declared.table_row.TableRow.{TableRow}
@@ -18,7 +18,7 @@ use Rattle.flsm_model.specs.Steps.{job_of, without_job, step, run}
 use Rattle.flsm_model.specs.Claims.{is_free, jobs_conflict}
 use Rattle.flsm_model.specs.Outcomes.{IsOutcome, IsEditOf}
 use Rattle.flsm_model.specs.Jobs.{IsLawful}
-use Rattle.flsm_model.specs.Legal.{Allowed, AllowedIn, IsLegal, last_running, may_cut_at}
+use Rattle.flsm_model.specs.Legal.{Allowed, AllowedIn, IsLegal, last_running}
 use Rattle.flsm_model.proofs.lists.Members.{IsIn}
 use Rattle.flsm_model.proofs.contents.Bound.{rows_step}
 use Rattle.flsm_model.proofs.guards.Facts.{move_facts, flush_facts, cut_facts, merge_facts}
@@ -277,10 +277,3 @@ holds_step o w (Stop m (Some e)) deep h a = by w.session a h.jobs
 pub holds_run : (o : Column) (w : Standing) (es : List Event) → 0 < o.last_level → Holds o w → IsLegal o w es → Holds o (run o w es)
 holds_run o w [] deep h l = h
 holds_run o w (e ∷ es) deep h l = holds_run o (step o w e) es deep (holds_step o w e deep h l.0) l.1
-
--- where contents are known a stop cuts the batches at the end of one
-pub cut_at_end : (w : Standing) (m : ℕ) → w.told ≡ true → may_cut_at w m ≡ true → is_boundary m w.batches ≡ true
-cut_at_end w m told h = elim (or_cases (is_boundary m w.batches) (not w.told && m == w.tree.shape.to) h) [
-  | inl b ↦ b
-  | inr r ↦ absurd (true≢false (sym told ∙ not-true w.told (and_parts (not w.told) (m == w.tree.shape.to) r).0))
-]

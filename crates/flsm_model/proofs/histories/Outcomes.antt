@@ -61,7 +61,7 @@ told_step o w JournalFault = refl
 told_step o w (Stop m None) = refl
 told_step o w (Stop m (Some e)) = refl
 
-run_told : (o : Column) (w : Standing) (es : List Event) → (run o w es).told ≡ w.told
+pub run_told : (o : Column) (w : Standing) (es : List Event) → (run o w es).told ≡ w.told
 run_told o w [] = refl
 run_told o w (e ∷ es) = run_told o (step o w e) es ∙ told_step o w e
 

@@ -28,9 +28,9 @@ use Rattle.flsm_model.specs.Stops.{RecordIsTrue, OpensNext, StopLeavesBase}
 use Rattle.flsm_model.specs.Bounds.{WrittenOnce}
 use Rattle.flsm_model.proofs.contents.Places.{Placed, Within, placed_step, placed_base, shape_same, ordered_some, record_bound}
 use Rattle.flsm_model.proofs.contents.Shown.{above_low}
-use Rattle.flsm_model.proofs.histories.Histories.{Holds, holds_step, job_in, within, cut_at_end}
+use Rattle.flsm_model.proofs.histories.Histories.{Holds, holds_step, job_in, within}
 use Rattle.flsm_model.proofs.contents.Base.{sound_base, deep}
-use Rattle.flsm_model.proofs.contents.MapLaw.{Shows, SessionShows, shows_step, still_frozen, to_after, last_same}
+use Rattle.flsm_model.proofs.contents.MapLaw.{Shows, SessionShows, shows_step, still_frozen, to_after, last_same, end_of_batch}
 use Rattle.flsm_model.proofs.contents.MapBase.{shows_base}
 use Rattle.flsm_model.proofs.contents.Structure.{Agree, tree_same, described_same, fit_push, tree_push, described_push, filter_none, agree_push, dropped_high}
 
@@ -239,7 +239,7 @@ told_step o w (Stop m None) hold pl sh h a = by w.session a sh.session
     by (Some n) x y =
         let low : w.tree.shape.to ≤ m = omega (arith, y.stable, x.1) in
         record {
-          books = books_batches o w.batches (batches_to m w.batches) w.edits w.tree m h.books (agree_drop 0 m w.batches pl.ordered (cut_at_end w m hold.tells x.0)) low;
+          books = books_batches o w.batches (batches_to m w.batches) w.edits w.tree m h.books (agree_drop 0 m w.batches pl.ordered (end_of_batch w m hold.tells x.0)) low;
           boundary = boundary_drop w.tree.shape.to m w.batches h.boundary low;
           frozen = tt;
         }
@@ -252,7 +252,7 @@ told_step o w (Stop m (Some e)) hold pl sh h a = by w.session refl a sh.session 
         let low : (tree_after o w.batches w.tree e).shape.to ≤ m = omega (arith, to_after o w n out.0 e out.2.formed.same y, x.1) in
         record {
           books = books_batches o w.batches (batches_to m w.batches) (w.edits ++ e ∷ []) (tree_after o w.batches w.tree e) m
-              (books_edit o w.batches w.edits w.tree e h.books out.2.formed.fit (out.2.holds hold.tells) (out.2.chooses hold.tells)) (agree_drop 0 m w.batches pl.ordered (cut_at_end w m hold.tells x.0)) low;
+              (books_edit o w.batches w.edits w.tree e h.books out.2.formed.fit (out.2.holds hold.tells) (out.2.chooses hold.tells)) (agree_drop 0 m w.batches pl.ordered (end_of_batch w m hold.tells x.0)) low;
           boundary = boundary_drop (tree_after o w.batches w.tree e).shape.to m w.batches (boundary_after o w n out.0 e out.2.formed.same h.boundary z) low;
           frozen = tt;
         }

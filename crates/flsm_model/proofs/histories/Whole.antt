@@ -1,8 +1,7 @@
 -- The laws of the jobs in flight, over any device.
 use Rattle.std.proofs.Common.{◌≡◌, ◌≤◌, ◌<◌, Bool, true, List, [], ◌∷◌, ◌++◌, refl, sym, ◌∙◌, ap, subst, arith}
-use Rattle.std.specs.Prelude.{ℕ, Option, Some, None, option_map, map, ⊤}
+use Rattle.std.specs.Prelude.{Option, Some, None}
 use Rattle.std.proofs.lemmas.Bool.{and_parts}
-use Rattle.std.proofs.lemmas.List.{append-nil, append_assoc, map-append}
 use Rattle.peb_base.specs.Batches.{Batches, last_number}
 use Rattle.peb_base.specs.Numbers.{session_of}
 use Rattle.peb_base.specs.Profiles.{column, Column}
@@ -13,12 +12,12 @@ use Rattle.flsm_model.specs.declared.job.Job.{Job}
 use Rattle.flsm_model.specs.Shape.{Record, Shape, empty_shape, shape_after, shape_from, shape_of}
 use Rattle.flsm_model.specs.Fits.{fits, fit_from, is_legal_record}
 use Rattle.flsm_model.specs.Trees.{Tree, empty_tree}
-use Rattle.flsm_model.specs.Events.{Event, Opened, Commit, Synced, Look, Hold, Release, Freeze, Begin, Done, Short, JournalFault, Stop, Session, Attempt, Running, Standing, base, last_of}
-use Rattle.flsm_model.specs.Outcomes.{IsOutcome, level_into, attempts_of}
+use Rattle.flsm_model.specs.Events.{Event, Opened, Commit, Synced, Look, Hold, Release, Freeze, Begin, Done, Short, JournalFault, Stop, Session, Standing, base, last_of}
+use Rattle.flsm_model.specs.Outcomes.{IsOutcome}
 use Rattle.flsm_model.specs.Legal.{Allowed, IsLegal, IsBase, last_running, AlwaysFormed}
 use Rattle.flsm_model.specs.Placing.{PlaceInGuards}
-use Rattle.flsm_model.specs.Steps.{without_job, running_of, shorts_of, attempts_with, frozen_left, step, run}
-use Rattle.flsm_model.specs.Stops.{RecordIsLegal, SessionIsLast, EndsWithSession}
+use Rattle.flsm_model.specs.Steps.{step, run}
+use Rattle.flsm_model.specs.Stops.{RecordIsLegal}
 use Rattle.flsm_model.specs.Fronts.{EmptyIsTrue, FrontsAreLegal, MarksInOrder}
 use Rattle.flsm_model.specs.TrueRecord.{IsTrueRecord}
 use Rattle.flsm_model.specs.Undisturbed.{Undisturbed, JobsStand, JobsUndisturbed}
@@ -27,7 +26,7 @@ use Rattle.flsm_model.proofs.contents.Begin.{Known}
 use Rattle.flsm_model.proofs.guards.InGuards.{InGuards, InGuard, in_guards_step}
 use Rattle.flsm_model.proofs.contents.Base.{deep, kept_empty}
 use Rattle.flsm_model.proofs.lists.Lists.{each_in}
-use Rattle.flsm_model.proofs.contents.Places.{shape_same, same_session, not_open}
+use Rattle.flsm_model.proofs.contents.Places.{shape_same}
 use Rattle.flsm_model.proofs.contents.Structure.{fit_push}
 use Rattle.flsm_model.proofs.histories.Truth.{All, all_base, all_step}
 use Rattle.flsm_model.proofs.histories.Sessions.{Numbers, NumbersHold, InNumbers, Spans, numbers_step, spans_step}
@@ -211,93 +210,3 @@ empty_is_true p =
       falls = record { falls = λ t u i. absurd i };
       map = λ x h. ((λ n. absurd n.here.among), (λ n. absurd n.here.entry));
     }
-
--- ---- the edits of a session
-
-abbrev Ends : Record → ℕ → List Attempt → Option Session → Type 0
-Ends edits number attempts None = ⊤
-Ends edits number attempts (Some n) = SessionIsLast edits number attempts n
-
--- so it is of a standing
-abbrev EndsNow : Standing → Type 0
-EndsNow w = Ends w.edits w.tree.shape.session w.attempts w.session
-
--- a change of the session that leaves its log, its edits and its shorts
-ends_map : (edits : Record) (number : ℕ) (attempts : List Attempt) (s : Option Session) (f : Session → Session)
-    → ((n : Session) → ((f n).log ≡ n.log) × ((f n).edits_made ≡ n.edits_made) × ((f n).jobs_cut_short ≡ n.jobs_cut_short))
-    → Ends edits number attempts s → Ends edits number attempts (option_map f s)
-ends_map edits number attempts None f g h = tt
-ends_map edits number attempts (Some n) f g h =
-    let same = g n in
-    record {
-      before = h.before;
-      edited = h.edited ∙ ap (λ log. h.before ++ Open number log ∷ n.edits_made) (sym same.0) ∙ ap (λ es. h.before ++ Open number (f n).log ∷ es) (sym same.1);
-      earlier = h.earlier;
-      latest = h.latest;
-      attempted = h.attempted;
-      levels = h.levels ∙ ap (map (λ p. p.0)) (sym same.2);
-    }
-
--- jobs that are cut short write into the levels that are told
-levels_of : (o : Column) (w : Standing) (n : Session) (bytes : ℕ) (rs : List Running) → map (λ a. a.0) (attempts_of o w n rs) ≡ map (λ p. p.0) (shorts_of bytes rs)
-levels_of o w n bytes [] = refl
-levels_of o w n bytes (r ∷ rs) = ap (λ ls. level_into r.1 ∷ ls) (levels_of o w n bytes rs)
-
-ends_step : (o : Column) (w : Standing) (e : Event) → EndsNow w → Allowed o w w.session e → EndsNow (step o w e)
-ends_step o w (Opened session log) h a =
-    record { before = w.edits; edited = refl; earlier = w.attempts; latest = []; attempted = sym (append-nil w.attempts); levels = refl }
-ends_step o w (Commit actor first ops) h a = ends_map w.edits w.tree.shape.session w.attempts w.session _ (λ n. (refl, refl, refl)) h
-ends_step o w (Synced actor m) h a = ends_map w.edits w.tree.shape.session w.attempts w.session _ (λ n. (refl, refl, refl)) h
-ends_step o w (Look actor m) h a = h
-ends_step o w (Hold actor m) h a = ends_map w.edits w.tree.shape.session w.attempts w.session _ (λ n. (refl, refl, refl)) h
-ends_step o w (Release actor m) h a = ends_map w.edits w.tree.shape.session w.attempts w.session _ (λ n. (refl, refl, refl)) h
-ends_step o w (Freeze m) h a = ends_map w.edits w.tree.shape.session w.attempts w.session _ (λ n. (refl, refl, refl)) h
-ends_step o w (Begin actor job) h a = ends_map w.edits w.tree.shape.session w.attempts w.session _ (λ n. (refl, refl, refl)) h
-ends_step o w (Done actor e) h a = by w.session h a
-  where
-    by : (s : Option Session) → Ends w.edits w.tree.shape.session w.attempts s → Allowed o w s (Done actor e)
-        → Ends (w.edits ++ e ∷ []) (shape_after w.tree.shape e).session w.attempts
-        (option_map {T = Session} {U = Session} (λ s. record s { running = without_job s.running actor; frozen = frozen_left e s.frozen; edits_made = s.edits_made ++ e ∷ [] }) s)
-    by None x y = tt
-    by (Some n) x y =
-        let out = job_in n.running actor (λ k. IsOutcome o w n k e) y.1 in
-        let same = same_session w.tree.shape e (not_open o w n out.0 e out.2) in
-        record {
-          before = x.before;
-          edited = ap (λ es. es ++ e ∷ []) x.edited ∙ append_assoc x.before (Open w.tree.shape.session n.log ∷ n.edits_made) (e ∷ [])
-              ∙ ap (λ number. x.before ++ Open number n.log ∷ (n.edits_made ++ e ∷ [])) (sym same);
-          earlier = x.earlier;
-          latest = x.latest;
-          attempted = x.attempted;
-          levels = x.levels;
-        }
-ends_step o w (Short actor cause bytes) h a = by w.session h
-  where
-    by : (s : Option Session) → Ends w.edits w.tree.shape.session w.attempts s
-        → Ends w.edits w.tree.shape.session (attempts_with o w s (running_of actor))
-        (option_map {T = Session} {U = Session} (λ s. record s { running = without_job s.running actor; jobs_cut_short = s.jobs_cut_short ++ shorts_of bytes (running_of actor s) }) s)
-    by None x = tt
-    by (Some n) x =
-        let more : List Attempt = attempts_of o w n (running_of actor n) in
-        record {
-          before = x.before;
-          edited = x.edited;
-          earlier = x.earlier;
-          latest = x.latest ++ more;
-          attempted = ap (λ es. es ++ more) x.attempted ∙ append_assoc x.earlier x.latest more;
-          levels = map-append (λ a. a.0) x.latest more ∙ ap (λ ls. ls ++ map (λ a. a.0) more) x.levels
-              ∙ ap (λ ls. map (λ p. p.0) n.jobs_cut_short ++ ls) (levels_of o w n bytes (running_of actor n))
-              ∙ sym (map-append (λ p. p.0) n.jobs_cut_short (shorts_of bytes (running_of actor n)));
-        }
-ends_step o w JournalFault h a = ends_map w.edits w.tree.shape.session w.attempts w.session _ (λ n. (refl, refl, refl)) h
-ends_step o w (Stop m None) h a = tt
-ends_step o w (Stop m (Some e)) h a = tt
-
-ends_run : (o : Column) (w : Standing) (es : List Event) → EndsNow w → IsLegal o w es → EndsNow (run o w es)
-ends_run o w [] h l = h
-ends_run o w (e ∷ es) h l = ends_run o (step o w e) es (ends_step o w e h l.0) l.1
-
-pub ends_with_session : AlwaysFormed EndsWithSession
-ends_with_session p told bs r h b legal n eq =
-    let w = run (column p) (base told (column p) bs r) h in
-    subst (Ends w.edits w.tree.shape.session w.attempts) eq (ends_run (column p) (base told (column p) bs r) h tt legal)

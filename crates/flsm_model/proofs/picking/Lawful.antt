@@ -2,7 +2,8 @@
 use Rattle.flsm_model.specs.declared.edit.Edit.{Edit}
 use Rattle.peb_base.specs.declared.profile.Profile.{Profile}
 use Rattle.flsm_model.proofs.histories.Undisturb.{EditIs, IsFlushOf, IsMoveOf, IsCutOf, IsMergeOf, edit_is}
-use Rattle.flsm_model.specs.Settling.{HasWork, last_tables, PickedHasWork}
+use Rattle.flsm_model.specs.Settling.{HasWork, last_tables}
+use Rattle.flsm_model.specs.PickedSettles.{PickedHasWork}
 use Rattle.flsm_model.specs.Writes.{total, one_if}
 use Rattle.std.proofs.Common.{nat_le, ◌≡◌, ℕ, zero, suc, ◌+◌, ◌-◌, ◌<◌, ◌≤◌, Bool, true, false, ◌&&◌, ◌||◌, not, List, [], ◌∷◌, ◌++◌, map, length, inl, inr, refl, sym, ◌∙◌, ap, subst, arith, cond}
 use Rattle.std.specs.Prelude.{◌==◌, nat_lt, filter, Option, Some, None}
@@ -62,7 +63,7 @@ pub data Target (o : Column) (s : Shape) (level : ℕ) (range : Bytes × Option 
   Cuts : (c : ℕ) (key : Bytes) → c < total → IsIn key (missing s level range (level + c)) → ((d : ℕ) → c < d → d < total → missing s level range (level + d) ≡ [])
       → k ≡ cut_job o s (level + c) (range_of (guards_at s (level + c)) key) → Target o s level range total move k
 
-target : (o : Column) (s : Shape) (level : ℕ) (range : Bytes × Option Bytes) (total count : ℕ) (move : Job) → count ≤ total
+pub target : (o : Column) (s : Shape) (level : ℕ) (range : Bytes × Option Bytes) (total count : ℕ) (move : Job) → count ≤ total
     → ((d : ℕ) → count ≤ d → d < total → missing s level range (level + d) ≡ []) → Target o s level range total move (job_at o s level range count move)
 target o s level range total zero move l deep = Moves refl (λ d m. deep d (omega arith) m)
 target o s level range total (suc count) move l deep = by (missing s level range (level + count)) refl (λ h. target o s level range total count move (omega (arith, l)) h)
@@ -79,7 +80,7 @@ target o s level range total (suc count) move l deep = by (missing s level range
     by [] e ih = ih (deeper e)
     by (key ∷ keys) e ih = Cuts count key l (subst (IsIn key) (sym e) (inl refl)) (λ d a b. deep d a b) refl
 
-targets : (o : Column) (s : Shape) (from count : ℕ) (k : Job) → IsIn k (target_jobs o s from count)
+pub targets : (o : Column) (s : Shape) (from count : ℕ) (k : Job) → IsIn k (target_jobs o s from count)
     → (level : ℕ) × (range : Bytes × Option Bytes) × (level < from + count) × IsIn range (over_at o s level) × (k ≡ job_at o s (suc level) range (o.last_level - level) (move_job s level range))
 targets o s from zero k i = absurd i
 targets o s from (suc count) k i = elim (in_append k (map (λ range. job_at o s (suc from) range (o.last_level - from) (move_job s from range)) (over_at o s from)) (target_jobs o s (suc from) count) i) [

@@ -113,7 +113,7 @@ has_with_number m n (a ∷ ns) = by (nat_le n a) (has_with_number m n ns)
     by true ih = refl
     by false ih = ap (λ z. m == a || z) ih ∙ swap (m == a) (m == n) (has_number m ns)
 
-has_numbers : (m : ℕ) (rows : List TableRow) → has_number m (numbers_of rows) ≡ is_numbered rows m
+pub has_numbers : (m : ℕ) (rows : List TableRow) → has_number m (numbers_of rows) ≡ is_numbered rows m
 has_numbers m [] = refl
 has_numbers m (r ∷ rows) = has_with_number m r.number (numbers_of rows) ∙ ap (λ z. m == r.number || z) (has_numbers m rows) ∙ ap (λ z. z || is_numbered rows m) (turned m r.number)
   where
