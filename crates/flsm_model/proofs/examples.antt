@@ -7,3 +7,4 @@ pub mod Refused
 pub mod RefusedJobs
 pub mod Untold
 pub mod ExampleSessions
+pub mod Edges
