@@ -4,6 +4,7 @@ use Rattle.peb_base.specs.Profiles.{column, Column}
 use Rattle.peb_base.specs.declared.profile.Profile.{Profile}
 use Rattle.flsm_model.specs.TrueRecord.{IsTrueRecord}
 use Rattle.flsm_model.specs.Events.{Event, Session, Standing, last_of}
+use Rattle.flsm_model.specs.Steps.{run}
 use Rattle.flsm_model.specs.Legal.{IsLegal}
 
 -- the empty record is true of no batches, so a first opening has a base
@@ -15,6 +16,12 @@ abbrev pub FrontsAreLegal : Type 0
 FrontsAreLegal =
     (o : Column) (w : Standing) (front rest : List Event) → IsLegal o w (front ++ rest)
     → IsLegal o w front
+
+-- a history that is legal from where a legal one leads is legal behind it
+abbrev pub HistoriesJoin : Type 0
+HistoriesJoin =
+    (o : Column) (w : Standing) (h later : List Event) → IsLegal o w h → IsLegal o (run o w h) later
+    → IsLegal o w (h ++ later)
 
 -- the last flush is stable, and what is stable is at most the last number; what is frozen lies
 -- above that flush, and is stable too

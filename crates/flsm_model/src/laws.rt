@@ -14,7 +14,7 @@ ghost use Rattle.flsm_model.specs.Stops.{RecordIsLegal, AlwaysEndsWithSession, R
 ghost use Rattle.flsm_model.specs.Undisturbed.{JobsUndisturbed};
 ghost use Rattle.flsm_model.specs.Made.{OutcomesFit, OutcomesStay};
 ghost use Rattle.flsm_model.specs.LastLevel.{WrittenByMerges};
-ghost use Rattle.flsm_model.specs.Fronts.{EmptyIsTrue, FrontsAreLegal, MarksInOrder};
+ghost use Rattle.flsm_model.specs.Fronts.{EmptyIsTrue, FrontsAreLegal, HistoriesJoin, MarksInOrder};
 ghost use Rattle.flsm_model.specs.Settling.{EditsSettle, MeasureFalls, OutcomesConserve, OutcomesSettle};
 ghost use Rattle.flsm_model.specs.Picked.{PickedIsLawful, IdleHasRoom, ChosenAscend, AscendingAreEqual};
 ghost use Rattle.flsm_model.specs.PickedSettles.{PickedSettles, PickedHasWork};
@@ -99,10 +99,12 @@ pub fn law_shape()
     ensures bounded { RecordsBounded }
 {}
 
-/// Where nothing is stored a history begins, and each front of a legal history is legal.
+/// Where nothing is stored a history begins. Each front of a legal history is legal, and so is one
+/// that goes on legally from where it leads.
 pub fn law_fronts()
     ensures empty { EmptyIsTrue }
     ensures fronts { FrontsAreLegal }
+    ensures joined { HistoriesJoin }
 {}
 
 /// What was flushed is stable, what is frozen lies above it and is stable too, and nothing above

@@ -18,7 +18,7 @@ use Rattle.flsm_model.specs.Legal.{Allowed, IsLegal, IsBase, last_running, Alway
 use Rattle.flsm_model.specs.Placing.{PlaceInGuards}
 use Rattle.flsm_model.specs.Steps.{step, run}
 use Rattle.flsm_model.specs.Stops.{RecordIsLegal}
-use Rattle.flsm_model.specs.Fronts.{EmptyIsTrue, FrontsAreLegal, MarksInOrder}
+use Rattle.flsm_model.specs.Fronts.{EmptyIsTrue, FrontsAreLegal, HistoriesJoin, MarksInOrder}
 use Rattle.flsm_model.specs.TrueRecord.{IsTrueRecord}
 use Rattle.flsm_model.specs.Undisturbed.{Undisturbed, JobsStand, JobsUndisturbed}
 use Rattle.flsm_model.proofs.histories.Histories.{apart_pair, job_in, known_step}
@@ -194,6 +194,10 @@ marks_in_order p told bs r h b legal n eq =
     let w = run (column p) (base told (column p) bs r) h in
     let x : InNumbers w.tree.shape (last_of w) n = subst (NumbersHold w.tree.shape (last_of w)) eq (formed_always p told bs r h b legal).numbers in
     record { flushed = x.marks.stable; stable = x.marks.stable_last; frozen = λ k q. let z = x.marks.frozen k q in (z.above, z.kept) }
+
+pub histories_join : HistoriesJoin
+histories_join o w [] later h l = l
+histories_join o w (e ∷ es) later h l = (h.0, histories_join o (step o w e) es later h.1 l)
 
 pub fronts_are_legal : FrontsAreLegal
 fronts_are_legal o w [] rest h = tt
