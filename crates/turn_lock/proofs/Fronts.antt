@@ -1,8 +1,9 @@
 -- Fronts of lists.
-use Rattle.std.proofs.Common.{◌≡◌, ◌<◌, ◌≤◌, Bool, true, false, cond, ltb, List, [], ◌∷◌, ◌++◌, length, sym, refl, ap, ◌∙◌, arith, append_assoc, append-nil, length-append}
+use Rattle.std.proofs.Common.{◌≡◌, ℕ, ◌<◌, ◌≤◌, Bool, true, false, cond, ltb, List, [], ◌∷◌, ◌++◌, length, sym, refl, ap, ◌∙◌, arith, append_assoc, append-nil, length-append}
 use Rattle.std.proofs.lemmas.Bool.{ltb-true, ltb-false}
-use mathlib.Core.Option.{some-injective}
+use mathlib.Core.Option.{some, some-injective}
 use lib.ListN.{get_elem?}
+use Rattle.atomic_table.proofs.Lists.{at_longer}
 use Rattle.turn_lock.specs.Lists.{IsFront, longer, shorter}
 
 module _ {A : Type 0} where
@@ -13,6 +14,10 @@ module _ {A : Type 0} where
   -- a front of a list is one of the list with more behind it
   pub front_longer : (h xs ys : List A) → IsFront xs h → IsFront xs (h ++ ys)
   front_longer h xs ys s = (s.0 ++ ys, ap (λ l. l ++ ys) s.1 ∙ append_assoc xs s.0 ys)
+
+  -- what stands in a front stands in the list
+  pub front_at : (h xs : List A) (i : ℕ) (x : A) → IsFront xs h → get_elem? xs i ≡ some x → get_elem? h i ≡ some x
+  front_at h xs i x s at = ap (λ (l : List A). get_elem? l i) s.1 ∙ at_longer xs s.0 i x at
 
   -- a front is no longer
   pub length_front : (h xs : List A) → IsFront xs h → length xs ≤ length h

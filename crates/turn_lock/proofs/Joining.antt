@@ -1,5 +1,5 @@
 -- A seat is joined into another.
-use Rattle.std.proofs.Common.{◌≡◌, ◌≢◌, ℕ, ◌+◌, ◌<◌, ◌≤◌, List, length, set, sym, refl, ap, ◌∙◌, subst, ◌⊎◌, inl, inr, ⊎_elim, arith, Option, length-set}
+use Rattle.std.proofs.Common.{◌≡◌, ◌≢◌, ℕ, ◌+◌, ◌<◌, ◌≤◌, List, [], length, set, sym, refl, ap, ◌∙◌, subst, ◌⊎◌, inl, inr, ⊎_elim, arith, Option, length-set}
 use Rattle.std.specs.List.{Contains}
 use Rattle.std.specs.List.Sorted.{IsStrictlyIncreasing}
 use Rattle.std.proofs.lemmas.List.Elements.{Contains-append_cases}
@@ -12,13 +12,13 @@ use Rattle.atomic_table.proofs.Lists.{set_here, set_else}
 use Rattle.turn_lock.specs.declared.known.Known.{Known}
 use Rattle.turn_lock.specs.declared.stage.Stage.TheVariants.{Idle, Serving}
 use Rattle.turn_lock.specs.Lists.{IsFront, longer, shorter}
-use Rattle.turn_lock.specs.Seat.{IsServing, HasPlaces, numbers, after_join}
+use Rattle.turn_lock.specs.Seat.{IsServing, HasOwnEvents, HasPlaces, numbers, newcomer, after_join}
 use Rattle.turn_lock.specs.Account.{Account}
-use Rattle.turn_lock.specs.Rule.{spent, tickets_at, ticket_count, place_count, Fits, IsAtHome, IsAway, AccountsFor, KeepsRule}
+use Rattle.turn_lock.specs.Rule.{spent, tickets_at, ticket_count, place_count, IsLive, Fits, IsAtHome, IsAway, AccountsFor, KeepsRule}
 use Rattle.turn_lock.specs.Steps.{AfterLearn}
 use Rattle.turn_lock.proofs.Functions.{move, move_here, move_else}
-use Rattle.turn_lock.proofs.Lists.{at_below, at_once}
-use Rattle.turn_lock.proofs.Fronts.{front_of, front_same, longer_case}
+use Rattle.turn_lock.proofs.Lists.{at_below, at_once, at_get}
+use Rattle.turn_lock.proofs.Fronts.{front_at, front_of, front_same, longer_case}
 use Rattle.turn_lock.proofs.Places.{merged_left, merged_right, merged_either, merged_increasing, length-merged}
 use Rattle.turn_lock.proofs.Stages.{is_live, spent_at, tickets_are, no_serve, serves_at}
 use Rattle.turn_lock.proofs.Views.{ticket_count_set, place_count_set, views_stay, seat_stays}
@@ -32,11 +32,17 @@ module _ {V E : Type 0} (stands : V → List E → Type 0) (actor : E → Option
   placed : (v : Known E) → IsStrictlyIncreasing v.mine → ((p : ℕ) → Contains v.mine p → (v.base ≤ p) × (p < length v.seen)) → HasPlaces v
   placed v ascend within = record { ascend = ascend; within = within }
 
-  -- an idle seat may learn that what it was told is a front of what it has seen
-  pub learns : (slots id : ℕ) (me : Me (Option V) (Known E)) → me.0.stage ≡ Idle → length me.0.told ≤ length me.0.seen → Allows Rule slots id me 0 (λ n. n) (AfterLearn (step slots 0 0 0 none) me)
+  -- each event that carries a number of a live seat stands at a place of its own
+  own_at : (a : Account E) (s : State (Option V) (Known E)) (q : AccountsFor stands actor a s) (id : ℕ) (v : Known E) → get_elem? s.views id ≡ some v → IsLive v.stage → HasOwnEvents actor v
+  own_at a s q id v at live p n e low got is has = let f : Fits a id v = q.each id v at in let k = f.knows live in let b = k.from in let there : get_elem? a.history p ≡ some e = front_at a.history v.seen p e f.seen (at_get v.seen p e got) in
+      let c = q.carried p n e (omega arith) there is in let g = q.given p (omega arith) (at_below a.history p e there) in let same : a.roll.giver p ≡ id = c.0 ∙ (k.numbers n has).0 in
+      subst (λ (z : Known E). Contains z.mine p) (at_once s.views (a.roll.giver p) id g.0 v same g.1 at) g.2
+
+  -- an idle seat may learn that what it was told is a front of what it has seen, and which events are its own
+  pub learns : (slots id : ℕ) (me : Me (Option V) (Known E)) → me.0.stage ≡ Idle → length me.0.told ≤ length me.0.seen → Allows Rule slots id me 0 (λ n. n) (AfterLearn actor (step slots 0 0 0 none) me)
   learns slots id me idle short s r deep at _ = let k = settled stands actor s id me.0 at (subst Begun (sym idle) tt) r in let a : Account E = k.0 in let q : AccountsFor stands actor a s = k.1 in let f : Fits a id me.0 = q.each id me.0 at in
-      let kn = f.knows (is_live me.0.stage Idle idle tt) in
-      (me.0, keeps, tt, still stands actor s 0 id me.0 me.1 at r, (refl, front_of a.history me.0.seen me.0.told f.seen f.told short, placed me.0 kn.ascends (λ p h. let m = kn.mine p h in let low = m.1 in let high = m.2 in let from = kn.from in (omega arith, high))))
+      let live = is_live me.0.stage Idle idle tt in let kn = f.knows live in
+      (me.0, keeps, tt, still stands actor s 0 id me.0 me.1 at r, (refl, front_of a.history me.0.seen me.0.told f.seen f.told short, placed me.0 kn.ascends (λ p h. let m = kn.mine p h in let low = m.1 in let high = m.2 in let from = kn.from in (omega arith, high)), own_at a s q id me.0 at live))
 
   -- of two fronts of a history both the longer and the shorter are fronts of it
   longer_front : (h xs ys : List E) → IsFront xs h → IsFront ys h → IsFront (longer xs ys) h × IsFront (shorter xs ys) h × (length xs ≤ length (longer xs ys)) × (length ys ≤ length (longer xs ys)) × (length (shorter xs ys) ≤ length (longer xs ys))
@@ -136,5 +142,9 @@ module _ {V E : Type 0} (stands : V → List E → Type 0) (actor : E → Option
 
 module _ {V E : Type 0} (stands : V → List E → Type 0) (actor : E → Option ℕ) where
   -- the same of a seat into which another was just joined
-  pub learns_joined : (slots id : ℕ) (me : Me (Option V) (Known E)) (v w : Known E) → me.0 ≡ after_join v w → v.stage ≡ Idle → Allows (KeepsRule stands actor) slots id me 0 (λ n. n) (AfterLearn (step slots 0 0 0 none) me)
+  pub learns_joined : (slots id : ℕ) (me : Me (Option V) (Known E)) (v w : Known E) → me.0 ≡ after_join v w → v.stage ≡ Idle → Allows (KeepsRule stands actor) slots id me 0 (λ n. n) (AfterLearn actor (step slots 0 0 0 none) me)
   learns_joined slots id me v w is idle = learns stands actor slots id me (ap (λ (z : Known E). z.stage) is ∙ idle) (subst (λ (z : Known E). length z.told ≤ length z.seen) (sym is) (shorter_below stands actor v.seen w.seen))
+
+  -- the same of a seat that was just split off
+  pub learns_new : (slots id : ℕ) (me : Me (Option V) (Known E)) (v : Known E) → me.0 ≡ newcomer v → Allows (KeepsRule stands actor) slots id me 0 (λ n. n) (AfterLearn actor (step slots 0 0 0 none) me)
+  learns_new slots id me v is = learns stands actor slots id me (ap (λ (z : Known E). z.stage) is) (subst (λ (z : Known E). length z.told ≤ length z.seen) (sym is) (omega arith))

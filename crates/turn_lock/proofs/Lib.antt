@@ -15,4 +15,5 @@ pub mod Splitting
 pub mod Joining
 pub mod Closing
 pub mod Turns
+pub mod Parting
 pub mod TestLemmas

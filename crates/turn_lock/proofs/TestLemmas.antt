@@ -63,3 +63,15 @@ module _ {E : Type 0} (u v w : Known E) where
       (λ first. ⊎_elim {C = Contains v.mine p ⊎ Contains w.mine p}
       (λ zero_th. absurd (contains_none p (subst (λ (z : List ℕ). Contains z p) none zero_th))) (λ second. inl second) (merged_either u.mine v.mine p first))
       (λ third. inr third) (merged_either (merged u.mine v.mine) w.mine p has)
+
+  -- the numbers of a first seat into which the seat 1 was joined, and into that the seat 2
+  chain_at : (a b c : List ℕ) → Contains a 0 → Contains b 1 → Contains c 2 → (n : ℕ) → n < 3 → Contains (a ++ (b ++ c)) n
+  chain_at a b c d e f zero l = Contains-append_left a (b ++ c) 0 d
+  chain_at a b c d e f (suc zero) l = Contains-append_right a (b ++ c) 1 (Contains-append_left b c 1 e)
+  chain_at a b c d e f (suc (suc zero)) l = Contains-append_right a (b ++ c) 2 (Contains-append_right b c 2 f)
+  chain_at a b c d e f (suc (suc (suc n))) l = absurd (omega arith)
+
+  -- the same of a seat whose numbers are known to be so
+  pub chain_numbers : (x : Known E) → numbers x ≡ numbers u ++ (numbers v ++ numbers w) → u.number ≡ 0 → v.number ≡ 1 → w.number ≡ 2 → x.seats ≡ 3 → (n : ℕ) → n < x.seats → Contains (numbers x) n
+  chain_numbers x is d e f three n l = subst (λ (z : List ℕ). Contains z n) (sym is)
+      (chain_at (numbers u) (numbers v) (numbers w) (contains_first u.number 0 u.joined d) (contains_first v.number 1 v.joined e) (contains_first w.number 2 w.joined f) n (omega arith))

@@ -11,7 +11,7 @@ use Rattle.turn_lock.specs.Lists.{IsFront}
 use Rattle.turn_lock.specs.Seat.{IsServing}
 use Rattle.turn_lock.specs.Account.{Queue, Account}
 use Rattle.turn_lock.specs.Rule.{fresh, filling, ticket_count, HasTicket, IsAtHome, IsAway, AccountsFor, IsOpening, KeepsRule}
-use Rattle.turn_lock.specs.Laws.{HasDrawn, IsSeat, ComesFirst, AllHaveSeen, NoneIsServed, AreCounted, TicketsAreCounted, TicketsAreApart, ServedComesFirst, FoundComesFirst, TurnHasSlot, OutIsTurn, HomeStands, TurnSeesAll}
+use Rattle.turn_lock.specs.Laws.{HasDrawn, IsSeat, ComesFirst, AllHaveSeen, NoneIsServed, AreCounted, TicketsAreCounted, TicketsAreApart, ServedComesFirst, ServedIsOne, FoundComesFirst, TurnHasSlot, OutIsTurn, HomeStands, TurnSeesAll}
 use Rattle.turn_lock.proofs.Lists.{alone}
 use Rattle.turn_lock.proofs.Stages.{serves_at, serving_is}
 use Rattle.turn_lock.proofs.Looking.{served_is, home_at}
@@ -74,6 +74,11 @@ module _ {V E : Type 0} (stands : V → List E → Type 0) (actor : E → Option
   pub served_first : ServedComesFirst stands actor
   served_first s r i t v at is = let k = settled stands actor s i v at (served_begun v.stage (serves_at v.stage t is)) r in
       first_of_all k.0 s k.1 i t v at (has_serving t v.stage is) (turn_is stands actor k.0 s k.1 i t v at is).2
+
+  -- two seats that are served drew the same ticket
+  pub served_once : ServedIsOne stands actor
+  served_once s r i j v w at there one two = let k = settled stands actor s i v at (served_begun v.stage one) r in let t = serving_is v.stage one in let u = serving_is w.stage two in
+      sym (turn_is stands actor k.0 s k.1 i t.0 v at t.1).3 ∙ (turn_is stands actor k.0 s k.1 j u.0 w there u.1).3
 
   -- so has a seat that finds its ticket
   pub found_first : FoundComesFirst stands actor

@@ -1,6 +1,6 @@
 -- What the rule of a lock says of turns, at every moment.
 use Rattle.std.specs.Prelude.{◌≡◌, ◌≢◌, ◌⊎◌, ℕ, ◌+◌, ◌%◌, ◌^◌, ◌<◌, ◌≤◌}
-use Rattle.std.specs.Prelude.{List, [], ◌∷◌, length, slice_index, Option, Some}
+use Rattle.std.specs.Prelude.{List, [], ◌∷◌, length, slice_index, Contains, Option, Some}
 use mathlib.Core.Option.{none, some}
 use lib.ListN.{get_elem?}
 use Rattle.atomic_table.specs.Table.{State}
@@ -9,8 +9,8 @@ use Rattle.turn_lock.specs.declared.stage.Stage.{Stage}
 use Rattle.turn_lock.specs.declared.stage.Stage.TheVariants.{Fresh, Filling, Idle, Waiting}
 use Rattle.turn_lock.specs.declared.stage.Stage.TheVariants.{Serving, Spent}
 use Rattle.turn_lock.specs.Lists.{IsFront}
-use Rattle.turn_lock.specs.Seat.{IsServing}
-use Rattle.turn_lock.specs.Rule.{ticket_count, KeepsRule}
+use Rattle.turn_lock.specs.Seat.{IsServing, numbers}
+use Rattle.turn_lock.specs.Rule.{ticket_count, place_count, IsLive, KeepsRule}
 
 -- a seat at this stage has this ticket: it waits with it, or is served with it
 abbrev pub HasDrawn : ℕ → Stage → Type 0
@@ -48,6 +48,21 @@ module _ {V E : Type 0} (s : State (Option V) (Known E)) where
     pub turn : (j t : ℕ) (v : Known E) → IsSeat j v → v.stage ≡ Serving t → t ≡ over
     pub known : (j : ℕ) (v : Known E) → IsSeat j v → v.over ≤ over
 
+  -- the history goes as far as some seat has seen, the word counts its events, and each of those
+  -- since this beginning stands at a place of some seat, and just once
+  pub record ArePlaced (base : ℕ) (history : List E) : Type 0 where
+    pub seen : AllHaveSeen history
+    pub longest : (j : ℕ) × ((v : Known E) × IsSeat j v × (v.seen ≡ history))
+    pub events : slice_index s.words 2 ≡ length history % 2 ^ 64
+    pub from : (j : ℕ) (v : Known E) → IsSeat j v → IsLive v.stage → v.base ≡ base
+    pub within :
+        (j p : ℕ) (v : Known E) → IsSeat j v → Contains v.mine p
+        → (base ≤ p) × (p < length history)
+    pub each :
+        (p : ℕ) → base ≤ p → p < length history
+        → (j : ℕ) × ((v : Known E) × IsSeat j v × Contains v.mine p)
+    pub counted : base + place_count s.views ≡ length history
+
   -- the value is in the slot, and stands for a history of which each seat has seen a front
   abbrev pub HasHome : (V → List E → Type 0) → Type 0
   HasHome stands =
@@ -73,6 +88,11 @@ module _ {V E : Type 0} (stands : V → List E → Type 0) (actor : E → Option
   abbrev pub ServedComesFirst : Type 0
   ServedComesFirst = AtEachMoment (λ s. (i t : ℕ) (v : Known E)
       → IsSeat s i v → v.stage ≡ Serving t → ComesFirst s i t)
+
+  -- two seats that are served are one
+  abbrev pub ServedIsOne : Type 0
+  ServedIsOne = AtEachMoment (λ s. (i j : ℕ) (v w : Known E)
+      → IsSeat s i v → IsSeat s j w → IsServing v.stage → IsServing w.stage → i ≡ j)
 
   -- a seat that waits and finds its ticket in the word of the one that is served has the lowest,
   -- no other is served, and the value is in the slot
@@ -103,3 +123,25 @@ module _ {V E : Type 0} (stands : V → List E → Type 0) (actor : E → Option
   abbrev pub TurnSeesAll : Type 0
   TurnSeesAll = AtEachMoment (λ s. (j : ℕ) (v : Known E) → IsSeat s j v → IsServing v.stage
       → AllHaveSeen s v.seen × (slice_index s.words 2 ≡ length v.seen % 2 ^ 64))
+
+  -- the places of all seats are those of the events since the beginning
+  abbrev pub PlacesAreEvents : Type 0
+  PlacesAreEvents = AtEachMoment (λ s. (base : ℕ) × (history : List E) × ArePlaced s base history)
+
+  -- no place stands in two seats' lists
+  abbrev pub PlacesAreApart : Type 0
+  PlacesAreApart = AtEachMoment (λ s. (i j p : ℕ) (v w : Known E)
+      → IsSeat s i v → IsSeat s j w → Contains v.mine p → Contains w.mine p → i ≡ j)
+
+  -- a number that a seat has as its own, or of one joined into it, lies below the count of the
+  -- seats, which the first seat knows
+  abbrev pub NumbersAreCounted : Type 0
+  NumbersAreCounted = AtEachMoment (λ s. (j : ℕ) (v : Known E) → IsSeat s j v → IsLive v.stage
+      → ((n : ℕ) → Contains (numbers v) n → n < length s.views)
+      × (v.number ≡ 0 → v.seats ≡ length s.views))
+
+  -- no number is two seats'
+  abbrev pub NumbersAreApart : Type 0
+  NumbersAreApart = AtEachMoment (λ s. (i j n : ℕ) (v w : Known E)
+      → IsSeat s i v → IsSeat s j w → IsLive v.stage → IsLive w.stage
+      → Contains (numbers v) n → Contains (numbers w) n → i ≡ j)

@@ -44,6 +44,11 @@ HasOwnEvents {E} actor v =
     (p n : ℕ) (e : E) → v.base ≤ p → slice_get v.seen p ≡ Some e
     → actor e ≡ Some n → Contains (numbers v) n → Contains v.mine p
 
+-- no event since `new` that it has seen carries its number
+abbrev pub HasNoEvents : {E : Type 0} → (E → Option ℕ) → Known E → Type 0
+HasNoEvents {E} actor v =
+    (p : ℕ) (e : E) → v.base ≤ p → slice_get v.seen p ≡ Some e → actor e ≡ Some v.number → ⊥
+
 -- the seat's places ascend, and are of events that it has seen and that came since `new`
 pub record HasPlaces {E : Type 0} (v : Known E) : Type 0 where
   pub ascend : IsStrictlyIncreasing v.mine

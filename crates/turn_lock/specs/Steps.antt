@@ -52,6 +52,9 @@ module _ {V E : Type 0} where
   abbrev pub AfterPass : Step (Option V) → Mine V E → ℕ → Mine V E → Type 0
   AfterPass step m r w = w ≡ (after_turn m.0, rest m.1)
 
-  -- of two seats that were joined the one saw a front of the other, and no place was both theirs
-  abbrev pub AfterLearn : Step (Option V) → Mine V E → ℕ → Mine V E → Type 0
-  AfterLearn step m r w = (w ≡ m) × IsFront m.0.told m.0.seen × HasPlaces m.0
+  -- of two seats that were joined the one saw a front of the other, no place was both theirs, and
+  -- each event that carries a number of theirs stands at one
+  abbrev pub AfterLearn :
+      (E → Option ℕ) → Step (Option V) → Mine V E → ℕ → Mine V E → Type 0
+  AfterLearn actor step m r w =
+      (w ≡ m) × IsFront m.0.told m.0.seen × HasPlaces m.0 × HasOwnEvents actor m.0

@@ -5,7 +5,8 @@
 
 ghost use Rattle.turn_lock.specs.Laws.{TicketsAreCounted, TicketsAreApart, ServedComesFirst};
 ghost use Rattle.turn_lock.specs.Laws.{FoundComesFirst, TurnHasSlot, OutIsTurn, HomeStands};
-ghost use Rattle.turn_lock.specs.Laws.{TurnSeesAll};
+ghost use Rattle.turn_lock.specs.Laws.{ServedIsOne, TurnSeesAll, PlacesAreEvents};
+ghost use Rattle.turn_lock.specs.Laws.{PlacesAreApart, NumbersAreCounted, NumbersAreApart};
 
 use crate::counted::Counted;
 
@@ -15,6 +16,7 @@ pub fn law_order<V: Counted>()
     ensures counted { TicketsAreCounted V.stands V.actor }
     ensures apart { TicketsAreApart V.stands V.actor }
     ensures served { ServedComesFirst V.stands V.actor }
+    ensures one { ServedIsOne V.stands V.actor }
     ensures found { FoundComesFirst V.stands V.actor }
 {}
 
@@ -29,4 +31,14 @@ pub fn law_value<V: Counted>()
 /// What a seat has seen in its turn is the whole history so far.
 pub fn law_history<V: Counted>()
     ensures { TurnSeesAll V.stands V.actor }
+{}
+
+/// The events since the beginning are parted among the seats. Each stands at a place of one seat,
+/// all together are as many as there were events, and no number is two seats'. What was joined into
+/// a seat is that seat's.
+pub fn law_places<V: Counted>()
+    ensures events { PlacesAreEvents V.stands V.actor }
+    ensures apart { PlacesAreApart V.stands V.actor }
+    ensures numbers { NumbersAreCounted V.stands V.actor }
+    ensures own_numbers { NumbersAreApart V.stands V.actor }
 {}

@@ -20,7 +20,7 @@ mod tests;
 
 pub use counted::Counted;
 pub use known::Known;
-pub use laws::{law_history, law_order, law_value};
+pub use laws::{law_history, law_order, law_places, law_value};
 pub use lock::TurnLock;
 pub use seat::Seat;
 pub use stage::Stage;

@@ -1,12 +1,13 @@
 //! Turn locks.
 
 ghost use Rattle.std.specs.Prelude.{◌≡◌, ◌≢◌, ◌+◌, ◌^◌, ◌<◌, ◌≤◌, ◌++◌, ℕ, List, length};
-ghost use Rattle.std.specs.Prelude.{[], Contains, IfOk, IfErr, OnOk, OnErr};
+ghost use Rattle.std.specs.Prelude.{[], ◌⊎◌, ◌↔◌, Contains, IfOk, IfErr, OnOk, OnErr};
 ghost use Rattle.turn_lock.specs.declared.stage.Stage.TheVariants.{Idle};
 ghost use Rattle.turn_lock.specs.Lists.{IsFront};
 ghost use Rattle.turn_lock.specs.Rule.{fresh};
 ghost use Rattle.turn_lock.specs.Seat.{IsServing, IsServedFrom, held_at, numbers};
-ghost use Rattle.turn_lock.specs.Seat.{HasOwnEvents, HasPlaces, HasHad, HasWholeHistory};
+ghost use Rattle.turn_lock.specs.Seat.{HasOwnEvents, HasNoEvents, HasPlaces, HasHad};
+ghost use Rattle.turn_lock.specs.Seat.{HasWholeHistory};
 ghost use Rattle.turn_lock.specs.Seat.{first_seat, having_seen, with_events, after_turn};
 ghost use Rattle.turn_lock.specs.Seat.{after_split, newcomer, after_join};
 
@@ -201,11 +202,20 @@ impl<V: Counted> TurnLock<V> {
         requires rests { seat.old.known.stage ≡ Idle }
         requires first { seat.old.known.number ≡ 0 }
 
-        // what it gives, and what it leaves
+        // what it gives
         ensures ok { IfOk result (λ other. other
             ≡ record { lock = seat.old.lock; known = newcomer seat.old.known }) }
+        ensures number { IfOk result (λ other. other.known.number ≡ seat.old.known.seats) }
+        ensures seen { IfOk result (λ other. other.known.seen ≡ seat.old.known.seen) }
+        ensures base { IfOk result (λ other. other.known.base ≡ seat.old.known.base) }
+        ensures over { IfOk result (λ other. other.known.over ≡ seat.old.known.over) }
+        ensures no_places { IfOk result (λ other. other.known.mine ≡ []) }
+        ensures no_events { IfOk result (λ other. HasNoEvents V.actor other.known) }
+
+        // what it leaves
         ensures counted { OnOk result (seat.new
             ≡ record { lock = seat.old.lock; known = after_split seat.old.known }) }
+        ensures seats { OnOk result (seat.new.known.seats ≡ seat.old.known.seats + 1) }
 
         // when it is refused
         ensures last { OnErr result (seat.old.known.seats + 1 ≡ 2 ^ 64) }
@@ -214,8 +224,9 @@ impl<V: Counted> TurnLock<V> {
         if seat.seats == u64::MAX {
             return Err(Memory);
         }
-        let place = self.table.shared.split_seat::<SplitOff>(&mut seat.place);
+        let mut place = self.table.shared.split_seat::<SplitOff>(&mut seat.place);
         seat.seats += 1;
+        self.table.shared.load::<Learn>(&mut place, TICKET);
         Ok(Seat { place, seats: 0 })
     }
 
@@ -226,16 +237,25 @@ impl<V: Counted> TurnLock<V> {
         requires rests { (seat.old.known.stage ≡ Idle) × (other.known.stage ≡ Idle) }
         requires later { other.known.number ≢ 0 }
 
-        // what the seat has then, and what stays
+        // what the seat has then
         ensures joined { seat.new.known ≡ after_join seat.old.known other.known }
-        ensures lock { seat.new.lock ≡ seat.old.lock }
+        ensures numbers { numbers seat.new.known
+            ≡ numbers seat.old.known ++ numbers other.known }
+        ensures own_events { HasOwnEvents V.actor seat.new.known }
+        ensures places { HasPlaces seat.new.known }
 
         // what both had
+        ensures over { (seat.old.known.over ≤ seat.new.known.over)
+            × (other.known.over ≤ seat.new.known.over) }
         ensures front { IsFront seat.old.known.seen seat.new.known.seen }
         ensures other_front { IsFront other.known.seen seat.new.known.seen }
+        ensures both { (p : ℕ) → Contains seat.new.known.mine p
+            ↔ (Contains seat.old.known.mine p ⊎ Contains other.known.mine p) }
         ensures apart { (p : ℕ) → Contains seat.old.known.mine p
             → Contains other.known.mine p → ⊥ }
-        ensures places { HasPlaces seat.new.known }
+
+        // what stays
+        ensures lock { seat.new.lock ≡ seat.old.lock }
     {
         let Seat { place, seats: _ } = other;
         let shared = &self.table.shared;

@@ -64,11 +64,12 @@ impl<V, E> Play<Option<V>, Known<E>> for Pass {
     ghost then = { AfterPass };
 }
 
-/// It learns, after a join, that what both seats had seen are fronts of one history.
+/// A seat learns which events are its own, and after a join that what both seats had seen are fronts
+/// of one history.
 pub(crate) struct Learn;
 
-impl<V, E> Play<Option<V>, Known<E>> for Learn {
-    ghost then = { AfterLearn };
+impl<V: Counted> Play<Option<V>, Known<V::Event>> for Learn {
+    ghost then = { AfterLearn V.actor };
 }
 
 /// A newcomer is split off the first seat.

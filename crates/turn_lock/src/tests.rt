@@ -169,6 +169,41 @@ fn close_two(lock: TurnLock<Tape>, mut first: Seat<Tape>, one: Seat<Tape>, two: 
     lock.close(first)
 }
 
+/// Joins the third seat into the second and that into the first, which gave no event, and closes
+/// the lock: the second has handed on the third's number.
+fn close_chain(
+    lock: TurnLock<Tape>,
+    mut first: Seat<Tape>,
+    mut one: Seat<Tape>,
+    two: Seat<Tape>,
+) -> Tape
+    requires idle { IsIdle lock 0 first × IsIdle lock 1 one × IsIdle lock 2 two }
+    requires first { (first.known.seats ≡ 3) × (first.known.mine ≡ []) }
+    ensures { (p : ℕ) → first.known.base ≤ p → p < length result.marks.items
+        → Contains one.known.mine p ⊎ Contains two.known.mine p }
+{
+    lock.join(&mut one, two);
+    lock.join(&mut first, one);
+    lock.close(first)
+}
+
+/// Whether the first mark since the lock was made is the seat's, as it finds in a turn without an
+/// event. If so, the place of that mark is one of its own.
+fn owns_first<R: Wait>(rt: &R, lock: &TurnLock<Tape>, seat: &mut Seat<Tape>, by: u64) -> bool
+    requires idle { IsIdle lock.now by seat.old }
+    requires new { seat.old.known.base ≡ 0 }
+    ensures own { IsTrue result → Contains seat.new.known.mine 0 }
+    ensures idle { IsIdle lock.now by seat.new }
+{
+    let tape = lock.take(rt, seat);
+    let own = match tape.marks.first() {
+        Some(mark) => mark.by == by,
+        None => false,
+    };
+    lock.give_about(seat, tape, &());
+    own
+}
+
 /// Two threads with a seat each add three marks. Each has three ascending places of its own, and
 /// together they have all.
 fn add_by_two<R: Threads + Wait + Sync>(rt: &R, alloc: Global) -> Option<Tape>
@@ -345,5 +380,36 @@ fn twenty_threads_add_a_thousand_marks_each(rt: HostRuntime) -> Result<(), Fail>
     }
     assert!(rt; in_order);
     assert!(rt; tape.marks.len() == 20_000);
+    Ok(())
+}
+
+/// A seat adds a mark to an empty tape and finds it in a later turn. Then all seats are joined, one
+/// behind the other.
+fn add_and_find<R: Wait>(rt: &R, alloc: Global) -> Option<(Tape, bool)> {
+    let tape = Tape {
+        marks: Vec::new(alloc),
+    };
+    let Opened {
+        lock,
+        first,
+        mut one,
+        mut two,
+    } = open_two(alloc, tape)?;
+    add(rt, &lock, &mut one, Mark { by: 1, value: 5 }).ok()?;
+    let found = owns_first(rt, &lock, &mut one, 1);
+    let other = owns_first(rt, &lock, &mut two, 2);
+    let tape = close_chain(lock, first, one, two);
+    Some((tape, found && !other))
+}
+
+#[test]
+fn the_first_mark_is_its_seats(rt: HostRuntime) -> Result<(), Fail> {
+    let Some((tape, found)) = add_and_find(&rt, rt.alloc()) else {
+        return Err(Fail::from("no memory"));
+    };
+    let one = values_by(rt.alloc(), &tape, 1)?;
+    assert!(rt; found);
+    assert!(rt; tape.marks.len() == 1);
+    assert!(rt; one.as_slice() == [5].as_slice());
     Ok(())
 }
