@@ -1,5 +1,5 @@
 -- What the rule says of places and numbers at a moment.
-use Rattle.std.proofs.Common.{◌≡◌, ℕ, ◌+◌, ◌%◌, ◌^◌, ◌<◌, ◌≤◌, List, [], ◌∷◌, length, get_or, sym, refl, ap, ◌∙◌, subst, ⊎_elim, arith, append-nil, Option, None}
+use Rattle.std.proofs.Common.{◌≡◌, ℕ, ◌<◌, ◌≤◌, List, [], ◌∷◌, length, get_or, sym, refl, ap, ◌∙◌, subst, ⊎_elim, arith, append-nil, Option, None}
 use Rattle.std.specs.List.{Contains}
 use mathlib.Core.Option.{none, some}
 use lib.ListN.{get_elem?}
@@ -7,7 +7,7 @@ use Rattle.atomic_table.specs.Table.{State}
 use Rattle.turn_lock.specs.declared.known.Known.{Known}
 use Rattle.turn_lock.specs.Seat.{numbers}
 use Rattle.turn_lock.specs.Account.{Account}
-use Rattle.turn_lock.specs.Rule.{blank, fresh, filling, place_count, IsLive, IsSpent, AccountsFor, IsOpening, KeepsRule}
+use Rattle.turn_lock.specs.Rule.{blank, fresh, filling, place_count, IsLive, AccountsFor, IsOpening}
 use Rattle.turn_lock.specs.declared.stage.Stage.{Stage}
 use Rattle.turn_lock.specs.declared.stage.Stage.TheVariants.{Fresh, Filling}
 use Rattle.turn_lock.specs.Laws.{IsSeat, ArePlaced, PlacesAreEvents, PlacesAreApart, NumbersAreCounted, NumbersAreApart}
@@ -22,7 +22,7 @@ module _ {V E : Type 0} (stands : V → List E → Type 0) (actor : E → Option
 
   -- before the lock has its value its one seat is blank
   blank_is : (s : Moment) → IsOpening stands actor s → (g : Stage) × (s.views ≡ blank g 1 ∷ [])
-  blank_is s o = ⊎_elim {C = (g : Stage) × (s.views ≡ blank g 1 ∷ [])} 
+  blank_is s o = ⊎_elim {C = (g : Stage) × (s.views ≡ blank g 1 ∷ [])}
       (λ (t : (s.views ≡ fresh ∷ []) × (s.homes ≡ some None ∷ [])). (Fresh, t.0)) (λ (t : (s.views ≡ filling ∷ []) × (s.homes ≡ none ∷ [])). (Filling, t.0)) o.1
 
   module _ (s : Moment) (o : IsOpening stands actor s) where
@@ -48,9 +48,10 @@ module _ {V E : Type 0} (stands : V → List E → Type 0) (actor : E → Option
 
     -- one seat is counted
     sole_counted : (j : ℕ) (v : Known E) → IsSeat s j v → ((n : ℕ) → Contains (numbers v) n → n < length s.views) × (v.number ≡ 0 → v.seats ≡ length s.views)
-    sole_counted j v at = let b = blank_is s o in let wide : length s.views ≡ 1 = ap (λ (z : List (Known E)). length z) b.1 in let is = (sole j v at).1 in
-        (λ n has. let e : 0 ≡ n = contains_alone 0 n (subst (λ (z : Known E). Contains (numbers z) n) (sym is) has) in omega arith,
-        λ _. let e : 1 ≡ v.seats = ap (λ (z : Known E). z.seats) is in omega arith)
+    sole_counted j v at = let b = blank_is s o in let wide : length s.views ≡ 1 = ap (λ (z : List (Known E)). length z) b.1 in let is = (sole j v at).1 in (
+      λ n has. let e : 0 ≡ n = contains_alone 0 n (subst (λ (z : Known E). Contains (numbers z) n) (sym is) has) in omega arith,
+      λ _. let e : 1 ≡ v.seats = ap (λ (z : Known E). z.seats) is in omega arith,
+    )
 
   module _ (a : Account E) (s : Moment) (q : AccountsFor stands actor a s) where
     -- whose a place is, by the account

@@ -1,13 +1,13 @@
 -- What the tests say of a value that is given back, and of a first seat into which two others were joined.
-use Rattle.std.proofs.Common.{◌≡◌, ℕ, zero, suc, ◌<◌, ◌≤◌, Bool, true, false, cond, List, [], ◌∷◌, ◌++◌, length, sym, ap, ◌∙◌, subst, ◌⊎◌, inl, inr, ⊎_elim, arith, append-nil, Option, Some}
-use Rattle.std.specs.List.{Contains}
+use Rattle.std.proofs.Common.{◌≡◌, ℕ, zero, suc, ◌<◌, ◌≤◌, Bool, true, false, cond, List, [], ◌∷◌, ◌++◌, length, sym, refl, ap, ◌∙◌, subst, ◌⊎◌, inl, inr, ⊎_elim, arith, append-nil, Option, Some}
+use Rattle.std.specs.List.{Contains, slice_get}
 use Rattle.std.proofs.lemmas.List.Elements.{Contains-append_left, Contains-append_right}
 use Rattle.turn_lock.specs.declared.known.Known.{Known}
 use Rattle.std.proofs.Math.Seq.{drop-append_seam}
 use Rattle.turn_lock.specs.Tests.{Says}
 use Rattle.turn_lock.specs.declared.stage.Stage.{Stage}
 use Rattle.turn_lock.specs.declared.stage.Stage.TheVariants.{Fresh, Filling, Idle, Waiting, Serving, Spent}
-use Rattle.turn_lock.specs.Seat.{IsServedFrom, ticket_after, MayGive, HasWholeHistory, numbers, after_join}
+use Rattle.turn_lock.specs.Seat.{IsServedFrom, ticket_after, after_turn, with_events, HasOwnEvents, MayGive, HasWholeHistory, numbers, after_join}
 use Rattle.turn_lock.specs.Lists.{merged}
 use Rattle.turn_lock.proofs.Lists.{same_some}
 use Rattle.turn_lock.proofs.Contained.{contains_none, contains_first, contains_next, contains_alone}
@@ -28,6 +28,15 @@ module _ {E : Type 0} (actor : E → Option ℕ) where
       (says_of v (x ∷ []) (omega arith) (λ e n h a. same_some n v.number (sym a ∙ (ap actor (sym (contains_alone x e h)) ∙ by))))
   says false x old events v same is by = subst (Says actor v) (append-nil v.seen ∙ (same ∙ sym is))
       (says_of v [] (omega arith) (λ e n h a. absurd (contains_none e h)))
+
+  -- an event that carries the seat's number, and is the first since a lock was made with none, stands at a place of the seat's
+  first_is_own : (v : Known E) (e : E) → HasOwnEvents actor v → v.base ≡ 0 → slice_get v.seen 0 ≡ Some e → actor e ≡ Some v.number → Contains v.mine 0
+  first_is_own v e own zero_th got is = own 0 v.number e (omega arith) got is (contains_first v.number v.number v.joined refl)
+
+  -- the same where that is known of the value that the seat took and gave back
+  pub first_is_kept : (v w : Known E) (items : List E) (e : E) → w ≡ after_turn (with_events [] v) → HasOwnEvents actor v → v.base ≡ 0 → v.seen ≡ items → slice_get items 0 ≡ Some e → actor e ≡ Some v.number → Contains w.mine 0
+  first_is_kept v w items e is own zero_th same got by = subst (λ (z : Known E). Contains z.mine 0) (sym is) (Contains-append_left v.mine [] 0
+      (first_is_own v e own zero_th (subst (λ (z : List E). slice_get z 0 ≡ Some e) (sym same) got) by))
 
 -- a turn comes after those that the seat knew to be over, and is over then
 pub turn_comes_after : (n : ℕ) (g : Stage) → IsServedFrom n g → n < ticket_after g
@@ -75,3 +84,9 @@ module _ {E : Type 0} (u v w : Known E) where
   pub chain_numbers : (x : Known E) → numbers x ≡ numbers u ++ (numbers v ++ numbers w) → u.number ≡ 0 → v.number ≡ 1 → w.number ≡ 2 → x.seats ≡ 3 → (n : ℕ) → n < x.seats → Contains (numbers x) n
   chain_numbers x is d e f three n l = subst (λ (z : List ℕ). Contains z n) (sym is)
       (chain_at (numbers u) (numbers v) (numbers w) (contains_first u.number 0 u.joined d) (contains_first v.number 1 v.joined e) (contains_first w.number 2 w.joined f) n (omega arith))
+
+  -- each place is one of the two seats' of which the one was joined into the other
+  pub all_of_chain : (x y : Known E) (items : List E) → x.base ≡ u.base → u.mine ≡ [] → HasWholeHistory x → x.seen ≡ items → ((p : ℕ) → Contains x.mine p → Contains u.mine p ⊎ Contains y.mine p) → ((p : ℕ) → Contains y.mine p → Contains v.mine p ⊎ Contains w.mine p)
+      → (p : ℕ) → u.base ≤ p → p < length items → Contains v.mine p ⊎ Contains w.mine p
+  all_of_chain x y items from bare whole seen outer inner p low high = let n = ap (λ (z : List E). length z) seen in
+      ⊎_elim {C = Contains v.mine p ⊎ Contains w.mine p} (λ h. absurd (contains_none p (subst (λ (z : List ℕ). Contains z p) bare h))) (λ h. inner p h) (outer p (whole.each p (omega arith) (omega arith)))

@@ -1,7 +1,7 @@
 //! Turns in threads.
 
 ghost use Rattle.std.specs.Prelude.{◌≡◌, ◌<◌, ◌≤◌, ◌++◌, ◌∷◌, [], ℕ, ◌⊎◌, List, length, All};
-ghost use Rattle.std.specs.Prelude.{Contains, IfOk, IfSome, IsTrue, OnErr, OnOk, Some};
+ghost use Rattle.std.specs.Prelude.{Contains, IfOk, IfSome, IsTrue, OnErr, OnOk, Some, slice_get};
 ghost use Rattle.turn_lock.specs.declared.stage.Stage.TheVariants.{Idle};
 ghost use Rattle.turn_lock.specs.declared.tests.Mark.{Mark};
 ghost use Rattle.turn_lock.specs.Seat.{IsIdle, IsServing, after_turn, after_split};
@@ -71,6 +71,7 @@ fn add<R: Wait>(
         (seat.new.known.seen ≡ before ++ mark ∷ [])
         × (seat.new.known.mine ≡ seat.old.known.mine ++ length before ∷ []))) }
     ensures err { OnErr result (seat.new.known.mine ≡ seat.old.known.mine) }
+    ensures base { seat.new.known.base ≡ seat.old.known.base }
     ensures idle { IsIdle lock.now mark.by seat.new }
 {
     let mut tape = lock.take(rt, seat);
@@ -187,6 +188,17 @@ fn close_chain(
     lock.close(first)
 }
 
+/// Whether there is a mark, and the first is by this number.
+fn starts_by(tape: &Tape, by: u64) -> bool
+    ensures { IsTrue result → (mark : Mark)
+        × (slice_get tape.now.marks.items 0 ≡ Some mark) × (mark.by ≡ by) }
+{
+    match tape.marks.first() {
+        Some(mark) => mark.by == by,
+        None => false,
+    }
+}
+
 /// Whether the first mark since the lock was made is the seat's, as it finds in a turn without an
 /// event. If so, the place of that mark is one of its own.
 fn owns_first<R: Wait>(rt: &R, lock: &TurnLock<Tape>, seat: &mut Seat<Tape>, by: u64) -> bool
@@ -196,10 +208,7 @@ fn owns_first<R: Wait>(rt: &R, lock: &TurnLock<Tape>, seat: &mut Seat<Tape>, by:
     ensures idle { IsIdle lock.now by seat.new }
 {
     let tape = lock.take(rt, seat);
-    let own = match tape.marks.first() {
-        Some(mark) => mark.by == by,
-        None => false,
-    };
+    let own = starts_by(&tape, by);
     lock.give_about(seat, tape, &());
     own
 }
