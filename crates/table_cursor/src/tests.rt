@@ -6,7 +6,7 @@ ghost use Rattle.peb_base.specs.Entries.{IsEntry, AreSorted, comes_before};
 ghost use Rattle.peb_base.specs.declared.entry.Entry.{Entry};
 ghost use Rattle.table_file.specs.Writing.{HasPushed};
 
-use crate::{TableCursor, are_sorted, look_in, look_up, round_trip};
+use crate::{TableCursor, TripFault, are_sorted, look_in, look_up, round_trip};
 use block_form::Block;
 use block_pool::Pool;
 use disk_model::{Devices, FailPlan, Maker, MemDevices, Plans, Port};
@@ -527,6 +527,22 @@ fn entry(alloc: Global, key: &[u8], count: u64, value: Option<&[u8]>) -> Result<
     })
 }
 
+/// Whether writing, opening and walking these sorted entries fails where this call of the port does.
+fn fails_at_call(alloc: Global, entries: &[Entry], call: u64) -> Result<bool, Fail> {
+    if entries.is_empty() || !are_sorted(entries) {
+        return Err("not sorted".into());
+    }
+    let mut plans = Plans::empty(alloc);
+    plans.port.calls.push(call)?;
+    let mut devices = MemDevices::new(alloc, plans)?;
+    let options = Options::of(Profile::Small);
+    match round_trip(alloc, &mut devices, &options, ONE, 2, entries) {
+        Ok(_) => Ok(false),
+        Err(TripFault::Fault) => Ok(true),
+        Err(why) => Err(why.into()),
+    }
+}
+
 /// Writes these entries and walks them, if they are sorted.
 fn tripped(alloc: Global, entries: &[Entry]) -> Result<Option<List<Entry>>, Fail> {
     if entries.is_empty() || !are_sorted(entries) {
@@ -577,5 +593,23 @@ fn what_was_written_is_walked(rt: HostRuntime) -> Result<(), Fail> {
     );
     entries.push(entry(alloc, b"p", 4, None)?)?;
     assert!(rt; tripped(alloc, &entries)?.is_none());
+    Ok(())
+}
+
+/// The port is handed out, three reads open the table, and each of its two blocks takes one.
+#[test]
+fn what_is_walked_is_read(rt: HostRuntime) -> Result<(), Fail> {
+    let alloc = rt.alloc();
+    let mut entries = Vec::new(alloc);
+    entries.push(entry(alloc, b"a", 1, Some(&[b'v'; 300]))?)?;
+    entries.push(entry(alloc, b"p", 3, Some(b"12"))?)?;
+    let mut failing = Vec::new(alloc);
+    for call in 1..=7 {
+        failing.push(fails_at_call(alloc, &entries, call)?)?;
+    }
+    assert_eq!(rt;
+        failing.as_slice(),
+        [true, true, true, true, true, true, false].as_slice()
+    );
     Ok(())
 }

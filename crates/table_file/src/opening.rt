@@ -145,6 +145,7 @@ fn read_filter<P: Port>(
         (λ why. IsDamage why → IsTrue P.File.tells → length (P.File.bytes file.now) ≡ row.now.bytes
         → ⊥) }
     ensures table { IfErr result (TellsTable row.now.number) }
+    ensures place { IfErr result (IsToldAt (λ at. at ≡ footer.now.filter)) }
     ensures port { ReadsAtMost P.Port 1 port.old port.new (result ≡ Err Fault) }
 {
     let bytes = match read_at(alloc, port, file, footer.filter, footer.filter_len as usize) {
