@@ -1,0 +1,9 @@
+mod Counting
+mod Firsts
+mod Landing
+mod Leading
+mod Sending
+mod Walked
+mod Stepping
+mod Seeking
+mod Falling

@@ -1,0 +1,10 @@
+use Rattle.std.proofs.Common.{◌<◌, ℕ, Some, length, subst, sym, ap}
+use Rattle.std.specs.Prelude.{IfSome}
+use Rattle.merge_iter.specs.StandLaws.{head_inside}
+use Rattle.merge_iter.proofs.Firsts.{current_inside}
+use Rattle.merge_iter.proofs.merge.Merge.source.Goals as goal
+
+pub returns-clause-inside : goal.returns-clause-inside
+returns-clause-inside g c =
+    let merge = c.args.self.now in
+    current_inside g.C.Cursor merge.inputs.items merge.is_back merge.current merge.chosen

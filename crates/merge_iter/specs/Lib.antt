@@ -1,0 +1,12 @@
+pub mod CutLaws
+pub mod Cuts
+pub mod Heads
+pub mod Landed
+pub mod Laws
+pub mod Moves
+pub mod Parts
+pub mod StandLaws
+pub mod Standing
+pub mod Totals
+pub mod Views
+pub mod Walking
