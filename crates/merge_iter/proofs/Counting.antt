@@ -1,14 +1,14 @@
 -- What moves of inputs count, leave ahead and keep.
-use Rattle.std.proofs.Common.{◌≡◌, ◌≢◌, ℕ, zero, suc, ◌+◌, ◌-◌, ◌^◌, ◌<◌, ◌≤◌, ◌⊎◌, inl, inr, Bool, true, false, not, ◌&&◌, List, [], ◌∷◌, Option, Some, None, Result, Ok, Err, length, map, refl, sym, ap, ◌∙◌, subst, arith}
-use Rattle.std.specs.Prelude.{if◌then◌else◌, get_or, is_none, min, IsOk, OnErr}
-use Rattle.std.proofs.lemmas.Bool.{true≢false, false≢true, cases_lt, cases_eq}
+use Rattle.std.proofs.Common.{◌≡◌, ℕ, zero, suc, ◌+◌, ◌<◌, ◌≤◌, inl, inr, Bool, true, false, ◌&&◌, List, [], ◌∷◌, Option, Some, None, Result, Ok, Err, length, refl, sym, ap, subst, arith}
+use Rattle.std.specs.Prelude.{if◌then◌else◌, get_or, is_none}
+use Rattle.std.proofs.lemmas.Bool.{cases_eq}
 use Rattle.peb_base.specs.Cursors.{CountsFaults, IfDamage, OnFault}
 use Rattle.peb_base.specs.Faults.{Rose}
 use Rattle.peb_base.specs.declared.cursor.Cursor.{Ghosts}
 use Rattle.peb_base.specs.declared.entry.Entry.{Entry}
 use Rattle.peb_base.specs.declared.read_fault.ReadFault.{ReadFault}
 use Rattle.peb_base.specs.declared.read_fault.ReadFault.TheVariants.{Fault, Damaged}
-use Rattle.merge_iter.specs.Moves.{Moved, Remains, Each, OnlyAt, Of, OneFailed, AllWent, step_in}
+use Rattle.merge_iter.specs.Moves.{Moved, Remains, Each, Of, OneFailed, AllWent, step_in}
 use Rattle.merge_iter.specs.Totals.{total, left, steps_left}
 
 module _ {C : Type 0} (g : Ghosts C) where

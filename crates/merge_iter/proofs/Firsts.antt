@@ -1,12 +1,12 @@
 -- The first of the entries at which cursors stand, found one after another.
-use Rattle.std.proofs.Common.{◌≡◌, ℕ, suc, ◌+◌, ◌<◌, ◌≤◌, ◌⊎◌, inl, inr, Bool, true, false, not, List, Option, Some, None, refl, sym, ap, ◌∙◌, subst, arith, length, map}
-use Rattle.std.specs.Prelude.{if◌then◌else◌, get_or, is_some, nat_lt, IfSome}
-use Rattle.std.proofs.lemmas.Bool.{true≢false, false≢true, false_from_ne_true, cases_lt, cases_eq, ltb-true, lt-ltb, and_from, and_parts}
+use Rattle.std.proofs.Common.{◌≡◌, ℕ, ◌+◌, ◌<◌, ◌≤◌, ◌⊎◌, inl, inr, Bool, true, false, not, List, Option, Some, None, refl, sym, ap, ◌∙◌, subst, arith, length, map}
+use Rattle.std.specs.Prelude.{if◌then◌else◌, is_some, nat_lt, IfSome}
+use Rattle.std.proofs.lemmas.Bool.{true≢false, false≢true, false_from_ne_true, cases_lt, ltb-true, and_from, and_parts}
 use Rattle.std.proofs.lemmas.Bool.Decides.{nat_tests}
 use Rattle.peb_base.specs.declared.cursor.Cursor.{Ghosts}
 use Rattle.peb_base.specs.declared.entry.Entry.{Entry}
 use Rattle.merge_iter.specs.CutLaws.{meets_irrefl, meets_asym, meets_split}
-use Rattle.merge_iter.specs.Heads.{head_at, meets_first, takes, is_better, gives_way, IsFirst, IsChosen}
+use Rattle.merge_iter.specs.Heads.{head_at, meets_first, takes, is_better, gives_way, IsChosen}
 use Rattle.merge_iter.specs.StandLaws.{head_past, head_inside}
 
 -- ---- the order of entries that may not be there
@@ -166,11 +166,14 @@ module _ {C : Type 0} (g : Ghosts C) (back : Bool) (inputs : List C) (best : ℕ
 
   pub chosen_some : (e : Entry) → head_at (map g.shows inputs) best ≡ Some e
       → IsChosen back (map g.shows inputs) (Some best)
-  chosen_some e some = (e, record {
-    at = some;
-    none_before = λ k. at k (cases_lt k (length inputs));
-    taken = λ k t. tie k t (cases_lt k (length inputs));
-  })
+  chosen_some e some = (
+    e,
+    record {
+      at = some;
+      none_before = λ k. at k (cases_lt k (length inputs));
+      taken = λ k t. tie k t (cases_lt k (length inputs));
+    },
+  )
     where
       at : (k : ℕ) → (k < length inputs) ⊎ (length inputs ≤ k)
           → meets_first back (head_at (map g.shows inputs) k) (Some e) ≡ false

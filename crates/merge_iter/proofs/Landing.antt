@@ -1,5 +1,5 @@
 -- A move of inputs that the merge took in.
-use Rattle.std.proofs.Common.{◌≡◌, ℕ, Bool, List, Option, Some, None, Result, Ok, Err, length, map, refl, sym, ap, ◌∙◌, subst}
+use Rattle.std.proofs.Common.{◌≡◌, ℕ, Bool, List, Option, Some, None, Result, Ok, Err, map, sym, ap, ◌∙◌, subst}
 use Rattle.std.specs.Prelude.{OnOk, OnErr}
 use Rattle.peb_base.specs.Cursors.{LeadsTo}
 use Rattle.peb_base.specs.declared.cursor.Cursor.{Ghosts}

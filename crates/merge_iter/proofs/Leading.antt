@@ -1,5 +1,5 @@
 -- Where moves of inputs lead the merge.
-use Rattle.std.proofs.Common.{◌≡◌, ◌≢◌, ℕ, ◌<◌, ◌≤◌, ◌⊎◌, inl, inr, Bool, true, false, not, List, Option, Some, None, Result, Ok, Err, length, map, refl, sym, ap, ◌∙◌, subst, arith}
+use Rattle.std.proofs.Common.{◌≡◌, ◌≢◌, ℕ, ◌<◌, ◌≤◌, ◌⊎◌, inl, inr, Bool, true, false, not, List, Option, Some, None, Err, length, map, refl, sym, ap, ◌∙◌, subst, arith}
 use Rattle.std.specs.Prelude.{if◌then◌else◌, get_or}
 use Rattle.std.proofs.lemmas.Bool.{cases_lt, cases_eq}
 use Rattle.std.proofs.lemmas.List.{get_or_default}
@@ -181,9 +181,11 @@ module _ {C : Type 0} (g : Ghosts C) (among : Among g) (old new : Merged C) (es 
             × ((d : C) → k < length new.inputs → g.stands (get_or new.inputs k d) (s.part k) p)
         by (inl lt) =
             let c = some_of old.inputs k lt in
-            let r = (remain.each k c lt).stands (s.part k) (s.at k) (s.each k c lt) in
-            (r.0, λ d inside. subst (λ x. g.stands x (s.part k) r.0)
-            (get_or_default new.inputs k c d inside) r.1)
+            let r = (remain.each k c lt).stands (s.part k) (s.at k) (s.each k c lt) in (
+              r.0,
+              λ d inside. subst (λ x. g.stands x (s.part k) r.0)
+                  (get_or_default new.inputs k c d inside) r.1,
+            )
         by (inr ge) = (None, λ d inside. let long = remain.same in absurd (omega (arith, ge, long, inside)))
 
     stands_nowhere : new.current ≡ None → Stands g.stands new es None

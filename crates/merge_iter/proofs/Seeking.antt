@@ -1,6 +1,5 @@
 -- A seek of the merge, and a merge over inputs that were sought.
-use Rattle.std.proofs.Common.{◌≡◌, ℕ, ◌<◌, false, List, Option, Some, None, Result, length, map, refl, sym, ap, ◌∙◌, subst, arith}
-use Rattle.std.specs.Prelude.{get_or}
+use Rattle.std.proofs.Common.{◌≡◌, ℕ, false, List, Some, None, Result, length, map, sym, ◌∙◌, subst, arith}
 use Rattle.peb_base.specs.Keys.{Bytes}
 use Rattle.peb_base.specs.Cursors.{place_from}
 use Rattle.peb_base.specs.Entries.{comes_before}

@@ -1,5 +1,5 @@
 -- A step of the merge, on or back.
-use Rattle.std.proofs.Common.{◌≡◌, ◌≢◌, ℕ, ◌<◌, ◌≤◌, ◌⊎◌, inl, inr, Bool, true, false, not, List, [], ◌∷◌, ◌++◌, Option, Some, None, Result, Ok, Err, length, map, refl, sym, ap, ◌∙◌, subst, arith}
+use Rattle.std.proofs.Common.{◌≡◌, ◌≢◌, ℕ, ◌<◌, ◌≤◌, ◌⊎◌, inl, inr, Bool, true, false, not, List, [], ◌∷◌, ◌++◌, Option, Some, None, Result, length, map, refl, sym, ap, ◌∙◌, subst, arith}
 use Rattle.std.specs.Prelude.{if◌then◌else◌, get_or, is_some, IfSome, OnOk}
 use Rattle.std.proofs.lemmas.Bool.{true≢false, false≢true, and_parts, not-true, cases_eq}
 use Rattle.peb_base.specs.Cursors.{entry_at, LeadsTo}
@@ -7,7 +7,7 @@ use Rattle.peb_base.specs.Entries.{entry_lt}
 use Rattle.peb_base.specs.declared.cursor.Cursor.{Ghosts}
 use Rattle.peb_base.specs.declared.entry.Entry.{Entry}
 use Rattle.peb_base.specs.declared.read_fault.ReadFault.{ReadFault}
-use Rattle.merge_iter.specs.Heads.{head_at, current_head, meets_first, gives_way, IsChosen}
+use Rattle.merge_iter.specs.Heads.{head_at, current_head, meets_first, gives_way}
 use Rattle.merge_iter.specs.Landed.{Landed}
 use Rattle.merge_iter.specs.Laws.{shown_input}
 use Rattle.merge_iter.specs.Moves.{target, step_in, Moved, Of, OnlyAt}

@@ -1,8 +1,8 @@
 -- A merged walk begins, and goes one entry on.
-use Rattle.std.proofs.Common.{◌≡◌, ◌≢◌, ℕ, suc, ◌<◌, ◌≤◌, ◌⊎◌, inl, inr, Bool, true, false, ◌&&◌, ◌||◌, not, List, [], ◌∷◌, ◌++◌, Option, Some, None, length, map, refl, sym, ap, ◌∙◌, subst, arith}
-use Rattle.std.specs.Prelude.{get_or, is_some, nat_lt, nat_eq, if◌then◌else◌, flat_map}
+use Rattle.std.proofs.Common.{◌≡◌, ◌≢◌, ℕ, ◌<◌, ◌≤◌, ◌⊎◌, inl, inr, Bool, true, false, ◌&&◌, ◌||◌, not, List, [], ◌∷◌, ◌++◌, Some, length, map, refl, sym, ap, ◌∙◌, subst, arith}
+use Rattle.std.specs.Prelude.{get_or, nat_lt, nat_eq, if◌then◌else◌}
 use Rattle.std.specs.List.{AllByRecursion}
-use Rattle.std.proofs.lemmas.Bool.{true≢false, false≢true, false_from_ne_true, or_parts, cases_lt, cases_eq}
+use Rattle.std.proofs.lemmas.Bool.{true≢false, false_from_ne_true, or_parts, cases_lt, cases_eq}
 use Rattle.std.proofs.lemmas.Bool.Decides.{nat_tests}
 use Rattle.peb_base.specs.Cursors.{ComesBeforeNone}
 use Rattle.peb_base.specs.Entries.{entry_lt}
@@ -10,11 +10,11 @@ use Rattle.peb_base.specs.EntryLaws.{entry_split}
 use Rattle.peb_base.specs.Members.{IsIn}
 use Rattle.peb_base.specs.declared.cursor.Cursor.{Ghosts}
 use Rattle.peb_base.specs.declared.entry.Entry.{Entry}
-use Rattle.merge_iter.specs.Heads.{head_at, current_head, meets_first, takes, IsChosen, IsFirst}
+use Rattle.merge_iter.specs.Heads.{head_at, meets_first, takes, IsChosen, IsFirst}
 use Rattle.merge_iter.specs.Moves.{Moved, Each, OnlyAt}
-use Rattle.merge_iter.specs.StandLaws.{head_is, head_inside, head_past}
+use Rattle.merge_iter.specs.StandLaws.{head_is, head_inside}
 use Rattle.merge_iter.specs.Standing.{Merged}
-use Rattle.merge_iter.specs.Walking.{tagged_lt, from_input, NeverBack, Gave, WentOver}
+use Rattle.merge_iter.specs.Walking.{tagged_lt, from_input, NeverBack, WentOver}
 use Rattle.merge_iter.specs.declared.step.Step.TheVariants.{First, Next}
 
 -- ---- lists
@@ -184,9 +184,9 @@ module _ {C : Type 0} (g : Ghosts C) (law : Ascends g) (old new : Merged C) (es 
   ahead_old t j k h is = elim (in_append t w.given ((i, e) ∷ []) j) [
     | inl a ↦ w.gave.ahead t a k h is
     | inr b ↦ elim b [
-        | inl s ↦ subst (λ (u : ℕ × Entry). tagged_lt (k, h) u ≡ false) (sym s) (least_is k h is)
-        | inr never ↦ absurd never
-      ]
+      | inl s ↦ subst (λ (u : ℕ × Entry). tagged_lt (k, h) u ≡ false) (sym s) (least_is k h is)
+      | inr never ↦ absurd never
+    ]
   ]
 
   walks_here : (d : C) → g.walks (get_or new.inputs i d) (from_input i w.given ++ e ∷ [])

@@ -1,5 +1,5 @@
 -- The entries at which cursors stand, and the one that comes first in a direction.
-use Rattle.std.specs.Prelude.{◌≡◌, ℕ, ◌<◌, Bool, true, false, not, ◌&&◌, nat_lt, List, Option, Some, None, get_or, is_some}
+use Rattle.std.specs.Prelude.{◌≡◌, ℕ, Bool, true, false, not, ◌&&◌, nat_lt, List, Option, Some, None, get_or, is_some}
 use Rattle.peb_base.specs.Entries.{comes_before, entry_lt}
 use Rattle.peb_base.specs.Keys.{Bytes}
 use Rattle.peb_base.specs.declared.entry.Entry.{Entry}

@@ -1,8 +1,7 @@
 -- What holds of every merge.
-use Rattle.std.proofs.Common.{◌≡◌, ◌≢◌, ℕ, zero, suc, ◌+◌, ◌<◌, ◌≤◌, ◌⊎◌, inl, inr, Bool, true, false, not, ◌&&◌, ◌||◌, List, [], ◌∷◌, Option, Some, None, length, map, refl, sym, ap, ◌∙◌, subst, arith}
-use Rattle.std.specs.Prelude.{◌↔◌, if◌then◌else◌, get_or, is_none, is_some}
-use Rattle.std.specs.List.{AllByRecursion}
-use Rattle.std.proofs.lemmas.Bool.{true≢false, or_parts}
+use Rattle.std.proofs.Common.{◌≡◌, ℕ, suc, ◌<◌, ◌≤◌, inl, inr, Bool, true, false, not, ◌&&◌, List, [], ◌∷◌, Option, Some, None, length, map, refl, sym, ap, ◌∙◌, subst, arith}
+use Rattle.std.specs.Prelude.{◌↔◌, if◌then◌else◌, get_or, is_none}
+use Rattle.std.proofs.lemmas.Bool.{or_parts}
 use Rattle.peb_base.specs.Cursors.{StandsAmong, ComesBeforeNone}
 use Rattle.peb_base.specs.Entries.{IsEntry, entry_lt}
 use Rattle.peb_base.specs.Members.{IsIn}
@@ -13,7 +12,7 @@ use Rattle.merge_iter.specs.Moves.{Each}
 use Rattle.merge_iter.specs.StandLaws.{Among, some_of, head_is, head_inside, stands_at}
 use Rattle.merge_iter.specs.Standing.{Merged, Stands}
 use Rattle.merge_iter.specs.Totals.{total, left, steps_left}
-use Rattle.merge_iter.specs.Walking.{tagged_lt, WentOver, Gave}
+use Rattle.merge_iter.specs.Walking.{tagged_lt, WentOver}
 
 module _ {C : Type 0} (g : Ghosts C) where
   abbrev shown_by : Merged C → Option Entry
@@ -85,9 +84,9 @@ module _ {C : Type 0} (g : Ghosts C) where
       ≤ suc (total g.size m.inputs))
   steps_bounded bounded m = (
     few m.current _ _
-    (total_low (left g false m.is_back) g.size m.inputs (left_low bounded false m.is_back)),
+        (total_low (left g false m.is_back) g.size m.inputs (left_low bounded false m.is_back)),
     few m.current _ _
-    (total_low (left g true (not m.is_back)) g.size m.inputs (left_low bounded true (not m.is_back))),
+        (total_low (left g true (not m.is_back)) g.size m.inputs (left_low bounded true (not m.is_back))),
   )
 
   -- ---- what stays

@@ -1,21 +1,21 @@
 -- Laws of standing.
-use Rattle.std.proofs.Common.{◌≡◌, ◌≢◌, ℕ, zero, suc, ◌-◌, ◌<◌, ◌≤◌, ◌⊎◌, inl, inr, Bool, true, false, not, ◌&&◌, List, [], ◌∷◌, Option, Some, None, length, map, refl, sym, ap, ◌∙◌, subst, arith}
-use Rattle.std.specs.Prelude.{if◌then◌else◌, slice_get, nat_lt, get_or, is_some, IfSome}
-use Rattle.std.proofs.lemmas.Bool.{true≢false, false≢true, and_parts, cases_lt, cases_eq, ltb-true, lt-ltb, not-true}
+use Rattle.std.proofs.Common.{◌≡◌, ℕ, zero, suc, ◌-◌, ◌<◌, ◌≤◌, ◌⊎◌, inl, inr, Bool, true, false, not, List, [], ◌∷◌, Option, Some, None, length, map, refl, sym, ap, ◌∙◌, subst, arith}
+use Rattle.std.specs.Prelude.{if◌then◌else◌, nat_lt, get_or, is_some, IfSome}
+use Rattle.std.proofs.lemmas.Bool.{true≢false, false≢true, and_parts, cases_lt, ltb-true, lt-ltb, not-true}
 use Rattle.std.proofs.lemmas.Bool.Decides.{nat_tests}
 use Rattle.std.proofs.lemmas.List.{get_or_past, get_or-map, length-map}
 use Rattle.peb_base.specs.Keys.{Bytes}
-use Rattle.peb_base.specs.Cursors.{place_in, entry_at, first_place, last_place, next_place, previous_place, place_from, StandsAmong}
+use Rattle.peb_base.specs.Cursors.{place_in, entry_at, first_place, last_place, previous_place, place_from, StandsAmong}
 use Rattle.peb_base.specs.Entries.{AreSorted, AscendFrom, entry_lt, comes_before, first_from}
 use Rattle.peb_base.specs.EntryLaws.{entry_split, before_split, entry_asym, entry_irrefl}
 use Rattle.peb_base.specs.Members.{IsIn}
 use Rattle.peb_base.specs.Sorting.{behind_first}
 use Rattle.peb_base.specs.declared.cursor.Cursor.{Ghosts}
 use Rattle.peb_base.specs.declared.entry.Entry.{Entry}
-use Rattle.merge_iter.specs.CutLaws.{IsEdge, edge_at, no_edge, none_beside, is_at_edge, not_met, apart_in, passed_true, passed_false, passed_low, place_there, got, get_inside}
+use Rattle.merge_iter.specs.CutLaws.{IsEdge, edge_at, no_edge, none_beside, is_at_edge, not_met, apart_in, passed_true, passed_false, passed_low}
 use Rattle.merge_iter.specs.Cuts.{passed, beside, Falls, before, upto, below, side_of}
-use Rattle.merge_iter.specs.Heads.{head_at, current_head, meets, meets_first, gives_way, IsChosen, IsFirst}
-use Rattle.merge_iter.specs.Moves.{target, step_in, Moved, Sought, Each, OnlyAt}
+use Rattle.merge_iter.specs.Heads.{head_at, current_head, meets, meets_first, gives_way, IsChosen}
+use Rattle.merge_iter.specs.Moves.{target, step_in}
 use Rattle.merge_iter.specs.Parts.{AreParts}
 use Rattle.merge_iter.specs.Standing.{Merged, StandEach, IsAtCut, IsHere, Stands}
 
@@ -333,14 +333,13 @@ pub current_edge : {C : Type 0} (g : Ghosts C) → Among g → (m : Merged C) (e
     → (e : Entry) × (head_at (map g.shows m.inputs) i ≡ Some e) × IsEdge m.is_back here.cut es e
 current_edge g among m es place i way s here =
     let head = head_there (head_at (map g.shows m.inputs) i)
-    (and_parts (is_some (head_at (map g.shows m.inputs) i)) _ (way 0)).0 in
-    (
+    (and_parts (is_some (head_at (map g.shows m.inputs) i)) _ (way 0)).0 in (
       head.0,
       head.1,
       edge_of_first g among m.is_back m.inputs s.part es s.parts here.cut here.falls s.at here.each
-      s.each i head.0 head.1
-      (λ k. subst (λ o. meets_first m.is_back (head_at (map g.shows m.inputs) k) o ≡ false) head.1
-      (not-true _ (and_parts (is_some (head_at (map g.shows m.inputs) i)) _ (way k)).1)),
+          s.each i head.0 head.1
+          (λ k. subst (λ o. meets_first m.is_back (head_at (map g.shows m.inputs) k) o ≡ false) head.1
+          (not-true _ (and_parts (is_some (head_at (map g.shows m.inputs) i)) _ (way k)).1)),
     )
 
 in_range : (cut : Entry → Bool) (back : Bool) (es : List Entry)

@@ -1,8 +1,7 @@
 -- What contracts see of a merge.
-use Rattle.std.specs.Prelude.{◌≡◌, ℕ, suc, ◌<◌, Bool, true, false, not, List, Option, get_or, length, map}
+use Rattle.std.specs.Prelude.{ℕ, suc, ◌<◌, true, false, not, List, Option, get_or, length, map}
 use Rattle.peb_base.specs.declared.cursor.Cursor.{Ghosts}
 use Rattle.peb_base.specs.declared.entry.Entry.{Entry}
-use Rattle.peb_base.specs.declared.read_fault.ReadFault.{ReadFault}
 use Rattle.merge_iter.specs.Heads.{current_head}
 use Rattle.merge_iter.specs.Moves.{Each}
 use Rattle.merge_iter.specs.Standing.{Merged, Stands}

@@ -1,5 +1,5 @@
 -- What a merged walk went over, whatever the devices tell.
-use Rattle.std.specs.Prelude.{◌≡◌, ℕ, ◌<◌, Bool, true, false, ◌&&◌, ◌||◌, not, nat_eq, nat_lt, if◌then◌else◌, List, [], ◌∷◌, Option, Some, flat_map, get_or, length, map}
+use Rattle.std.specs.Prelude.{◌≡◌, ℕ, ◌<◌, Bool, false, ◌&&◌, ◌||◌, not, nat_eq, nat_lt, if◌then◌else◌, List, [], ◌∷◌, Some, flat_map, get_or, length, map}
 use Rattle.std.specs.List.{AllByRecursion}
 use Rattle.peb_base.specs.Entries.{entry_lt}
 use Rattle.peb_base.specs.Members.{IsIn}

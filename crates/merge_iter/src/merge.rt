@@ -266,6 +266,9 @@ impl<C: Cursor> Cursor for Merge<C> {
     }
 
     fn prev(&mut self) -> Result<(), ReadFault> {
+        if self.is_back {
+            return self.step_back();
+        }
         let mut key = KeyBuf::new();
         let Some(entry) = self.at() else {
             self.refused = None;

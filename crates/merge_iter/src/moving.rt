@@ -50,7 +50,11 @@ fn send_all<C: Cursor>(inputs: &mut Vec<C>, step: Step) -> Result<(), ReadFault>
 }
 
 /// Makes a step with the cursor at a place, or with each.
-pub fn send<C: Cursor>(inputs: &mut Vec<C>, only: Option<usize>, step: Step) -> Result<(), ReadFault>
+pub fn send<C: Cursor>(
+    inputs: &mut Vec<C>,
+    only: Option<usize>,
+    step: Step,
+) -> Result<(), ReadFault>
     requires { IfSome only (λ place. place < length inputs.old.items) }
     ensures { AllWent C.Cursor (Of (Moved C.Cursor step) only) inputs.old.items inputs.new.items result }
 {

@@ -1,7 +1,6 @@
-use Rattle.std.proofs.Common.{◌≡◌, ◌<◌, ◌+◌, None, Some, length, map, sym, ap, ◌∙◌, subst, arith, option_map}
+use Rattle.std.proofs.Common.{◌≡◌, ◌+◌, None, length, map, sym, ap, ◌∙◌, subst, arith, option_map}
 use Rattle.std.proofs.lemmas.List.{get_or-map}
 use Rattle.peb_base.specs.EntryRefs.{entry_of}
-use Rattle.merge_iter.specs.Heads.{head_at}
 use Rattle.merge_iter.proofs.Firsts.{Best, best_none, best_more, chosen_some, chosen_none, chosen_empty}
 use Rattle.merge_iter.proofs.choosing.chosen.Goals as goal
 

@@ -1,4 +1,4 @@
-use Rattle.merge_iter.specs.Moves.{Moved, Sought}
+use Rattle.merge_iter.specs.Moves.{Sought}
 use Rattle.merge_iter.proofs.Sending.{Begun}
 use Rattle.merge_iter.proofs.moving.seek_all.Given as goal
 

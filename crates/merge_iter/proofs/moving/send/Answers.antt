@@ -1,4 +1,4 @@
-use Rattle.std.proofs.Common.{◌≡◌, ◌<◌, ◌∙◌, Some, length, set, sym, ap, subst}
+use Rattle.std.proofs.Common.{◌<◌, ◌∙◌, length, set, sym, subst}
 use Rattle.std.specs.Prelude.{IfSome}
 use Rattle.std.proofs.lemmas.List.{get_or_default}
 use Rattle.merge_iter.specs.Moves.{AllWent, Moved, Of, Went}

@@ -1,4 +1,4 @@
-use Rattle.std.proofs.Common.{◌<◌, ◌∙◌, length, subst, rules, arith}
+use Rattle.std.proofs.Common.{◌<◌, ◌∙◌, length, subst, rules}
 use Rattle.std.proofs.lemmas.List.{get_or_default}
 use Rattle.merge_iter.specs.Moves.{Failed, Moved, OneFailed}
 use Rattle.merge_iter.proofs.Sending.{begun_failed}

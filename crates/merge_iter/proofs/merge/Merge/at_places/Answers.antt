@@ -1,6 +1,5 @@
 use Rattle.std.proofs.Common.{false, map, refl, subst}
 use Rattle.merge_iter.specs.Heads.{IsChosen}
-use Rattle.merge_iter.specs.Views.{merged_of}
 use Rattle.merge_iter.proofs.Seeking.{stands_sought}
 use Rattle.merge_iter.proofs.merge.Merge.at_places.Goals as goal
 

@@ -1,6 +1,3 @@
-use Rattle.std.proofs.Common.{◌<◌, ℕ, Some, length, subst, sym, ap}
-use Rattle.std.specs.Prelude.{IfSome}
-use Rattle.merge_iter.specs.StandLaws.{head_inside}
 use Rattle.merge_iter.proofs.Firsts.{current_inside}
 use Rattle.merge_iter.proofs.merge.Merge.source.Goals as goal
 

@@ -1,4 +1,4 @@
-use Rattle.std.proofs.Common.{◌≡◌, Bool, true, false, not, refl, ap, sym, ◌∙◌}
+use Rattle.std.proofs.Common.{true, not, ap}
 use Rattle.peb_base.specs.Cursors.{previous_place}
 use Rattle.merge_iter.specs.Views.{merged_of}
 use Rattle.merge_iter.proofs.Leading.{previous_is}

@@ -1,4 +1,4 @@
-use Rattle.std.proofs.Common.{◌≡◌, ◌<◌, ◌∙◌, None, true, length, map, rules, sym, ap, subst}
+use Rattle.std.proofs.Common.{◌<◌, ◌∙◌, None, length, map, rules, sym, ap, subst}
 use Rattle.std.specs.Prelude.{IfSome}
 use Rattle.std.proofs.lemmas.List.{get_or-map}
 use Rattle.merge_iter.specs.Heads.{current_head}

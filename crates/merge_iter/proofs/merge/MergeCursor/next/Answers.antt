@@ -1,4 +1,4 @@
-use Rattle.std.proofs.Common.{◌≡◌, Bool, true, false, not, refl, ap}
+use Rattle.std.proofs.Common.{false}
 use Rattle.peb_base.specs.Cursors.{next_place}
 use Rattle.merge_iter.specs.Views.{merged_of}
 use Rattle.merge_iter.proofs.Leading.{next_is}
