@@ -7,3 +7,6 @@ mod Walked
 mod Stepping
 mod Seeking
 mod Falling
+mod Going
+mod Passing
+mod Beginning

@@ -5,8 +5,10 @@ pub mod Landed
 pub mod Laws
 pub mod Moves
 pub mod Parts
+pub mod Seeing
 pub mod StandLaws
 pub mod Standing
 pub mod Totals
 pub mod Views
+pub mod VisibleViews
 pub mod Walking

@@ -1,4 +1,4 @@
-//! Several cursors as one.
+//! Several cursors as one, and what a number sees of them.
 //!
 //! The layers above hand in cursors, walk over the entries of all of them in order, in either direction,
 //! and get the cursors back. They may not know in which order the cursors are moved.
@@ -8,5 +8,7 @@ mod choosing;
 mod merge;
 mod moving;
 mod step;
+mod visible;
 
 pub use merge::Merge;
+pub use visible::Visible;

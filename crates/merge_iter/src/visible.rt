@@ -1,0 +1,196 @@
+//! What a number sees of a cursor's entries.
+
+ghost use Rattle.std.specs.Prelude.{◌≡◌, ◌<◌, ◌≤◌, [], ℕ, false, true, not, List, Option, Some, None, IfSome, OnErr, option_map, nat_lt};
+ghost use Rattle.peb_base.specs.Cursors.{place_in, place_from, first_place, last_place, next_place, previous_place, LeadsTo, CountsFaults, IfDamage};
+ghost use Rattle.peb_base.specs.EntryRefs.{entry_of};
+ghost use Rattle.peb_base.specs.declared.entry.Entry.{Entry};
+ghost use Rattle.merge_iter.specs.Seeing.{visible, Sees, put_at_most, puts, is_passed, is_hidden, key_after, key_of, IsAhead};
+
+use peb_base::{ChangeRef, Cursor, EntryRef, KeyBuf, Number, ReadFault};
+
+/// What a number sees of a cursor's entries: of each key the newest entry at or below the number, unless
+/// that is a deletion.
+///
+/// A call that answers a `ReadFault` leaves it at no place. No call takes memory.
+pub struct Visible<C: Cursor> {
+    inner: C,
+    number: Number,
+    /// The key of the last entry at or below the number that a walk on passed; empty before the first.
+    key: KeyBuf,
+}
+
+/// Whether the entry gives its key a value.
+fn is_put(entry: &EntryRef<'_>) -> bool
+    ensures { result ≡ puts (entry_of entry.now).change }
+{
+    match entry.change {
+        ChangeRef::Put(_) => true,
+        ChangeRef::Delete => false,
+    }
+}
+
+/// Whether the entry is newer than a number, or of a key.
+fn passes(entry: &EntryRef<'_>, number: u64, key: &[u8]) -> bool
+    ensures { result ≡ is_passed number key.now (entry_of entry.now) }
+{
+    number < entry.number || entry.key == key
+}
+
+impl<C: Cursor> Visible<C> {
+    ghost use Rattle.merge_iter.specs.VisibleViews.{inner_of, number_of_view, seen_by, SeesIn};
+
+    /// Sees a cursor's entries at a number, at no place. The cursor stands at no place.
+    pub fn new(inner: C, number: Number) -> Visible<C>
+        requires nothing { C.shows inner ≡ None }
+        ensures inner { inner_of result ≡ inner }
+        ensures number { number_of_view result ≡ number }
+        ensures nothing { seen_by C.Cursor result ≡ None }
+    {
+        Visible {
+            inner,
+            number,
+            key: KeyBuf::new(),
+        }
+    }
+
+    /// Gives the cursor back, wherever it stands.
+    pub fn close(self) -> C
+        ensures { result ≡ inner_of self }
+    {
+        let Visible {
+            inner,
+            number: _,
+            key: _,
+        } = self;
+        inner
+    }
+
+    /// Lends the entry at its place, a put at or below the number; None at no place.
+    pub fn at(&self) -> Option<EntryRef<'_>>
+        ensures lent { option_map entry_of result ≡ seen_by C.Cursor self.now }
+        ensures put { IfSome result (λ e. (puts (entry_of e).change ≡ true) × ((entry_of e).number ≤ number_of_view self.now)) }
+    {
+        let Some(entry) = self.inner.at() else {
+            return None;
+        };
+        if self.number.packed() < entry.number || !is_put(&entry) {
+            return None;
+        }
+        Some(entry)
+    }
+
+    /// Whether a walk on doesn't stop at the cursor's entry.
+    fn hides(&self) -> bool
+        ensures { result ≡ is_hidden self.now.number self.now.key (C.shows self.now.inner) }
+    {
+        let Some(entry) = self.inner.at() else {
+            return false;
+        };
+        passes(&entry, self.number.packed(), self.key.bytes()) || !is_put(&entry)
+    }
+
+    /// Keeps the key of the cursor's entry.
+    fn keep_key(&mut self)
+        ensures { self.new ≡ record self.old { key = key_of self.old.key (C.shows self.old.inner) } }
+    {
+        let Some(entry) = self.inner.at() else {
+            return;
+        };
+        self.key.put(0, entry.key);
+    }
+
+    /// Keeps the key of the cursor's entry, unless the entry is newer than the number.
+    fn keep_passed(&mut self)
+        ensures { self.new ≡ record self.old { key = key_after self.old.number self.old.key (C.shows self.old.inner) } }
+    {
+        let Some(entry) = self.inner.at() else {
+            return;
+        };
+        if passes(&entry, self.number.packed(), self.key.bytes()) {
+            return;
+        }
+        self.key.put(0, entry.key);
+    }
+
+    /// Goes on to the first entry at which a walk on stops, which may be the one where it stands.
+    fn settle(&mut self) -> Result<(), ReadFault>
+        // what it gives
+        ensures goes { (es : List Entry) (at : Option ℕ) (p : ℕ) → C.stands self.old.inner es at
+            → IsAhead self.old.number self.old.key es at p
+            → LeadsTo (SeesIn C.Cursor self.new es) (place_in (visible self.old.number es) p) result }
+        // what it leaves
+        ensures nothing { OnErr result (C.shows self.new.inner ≡ None) }
+        // when it fails
+        ensures counts { CountsFaults (C.faults self.old.inner) (C.faults self.new.inner) result }
+        ensures damage { IfDamage result (C.damaged self.new.inner) }
+        // what stays
+        ensures number { self.new.number ≡ self.old.number }
+        ensures keeps { C.keeps self.old.inner self.new.inner }
+    {
+        while self.hides() {
+            self.keep_passed();
+            self.inner.next()?;
+        }
+        Ok(())
+    }
+
+    /// Goes to the first visible entry whose key doesn't come before this one, or to no place where all
+    /// come before.
+    pub fn seek(&mut self, key: &[u8]) -> Result<(), ReadFault>
+        // what it gives
+        ensures goes { (es : List Entry) (place : Option ℕ) → SeesIn C.Cursor self.old es place
+            → LeadsTo (SeesIn C.Cursor self.new es)
+            (place_from key.now (number_of_view self.old) (visible (number_of_view self.old) es)) result }
+        // what it leaves
+        ensures nothing { OnErr result (seen_by C.Cursor self.new ≡ None) }
+        // when it fails
+        ensures counts { CountsFaults (C.faults (inner_of self.old)) (C.faults (inner_of self.new)) result }
+        ensures damage { IfDamage result (C.damaged (inner_of self.new)) }
+        // what stays
+        ensures number { number_of_view self.new ≡ number_of_view self.old }
+        ensures keeps { C.keeps (inner_of self.old) (inner_of self.new) }
+    {
+        self.key.put(0, &[]);
+        self.inner.seek(key, self.number)?;
+        self.settle()
+    }
+
+    /// Goes to the first visible entry, or to no place where there is none.
+    pub fn first(&mut self) -> Result<(), ReadFault>
+        // what it gives
+        ensures goes { (es : List Entry) (place : Option ℕ) → SeesIn C.Cursor self.old es place
+            → LeadsTo (SeesIn C.Cursor self.new es) (first_place (visible (number_of_view self.old) es)) result }
+        // what it leaves
+        ensures nothing { OnErr result (seen_by C.Cursor self.new ≡ None) }
+        // when it fails
+        ensures counts { CountsFaults (C.faults (inner_of self.old)) (C.faults (inner_of self.new)) result }
+        ensures damage { IfDamage result (C.damaged (inner_of self.new)) }
+        // what stays
+        ensures number { number_of_view self.new ≡ number_of_view self.old }
+        ensures keeps { C.keeps (inner_of self.old) (inner_of self.new) }
+    {
+        self.key.put(0, &[]);
+        self.inner.first()?;
+        self.settle()
+    }
+
+    /// Goes one visible entry on, or to no place behind the last. At no place it stays there.
+    pub fn next(&mut self) -> Result<(), ReadFault>
+        // what it gives
+        ensures goes { (es : List Entry) (place : Option ℕ) → SeesIn C.Cursor self.old es place
+            → LeadsTo (SeesIn C.Cursor self.new es)
+            (next_place (visible (number_of_view self.old) es) place) result }
+        // what it leaves
+        ensures nothing { OnErr result (seen_by C.Cursor self.new ≡ None) }
+        // when it fails
+        ensures counts { CountsFaults (C.faults (inner_of self.old)) (C.faults (inner_of self.new)) result }
+        ensures damage { IfDamage result (C.damaged (inner_of self.new)) }
+        // what stays
+        ensures number { number_of_view self.new ≡ number_of_view self.old }
+        ensures keeps { C.keeps (inner_of self.old) (inner_of self.new) }
+    {
+        self.keep_key();
+        self.inner.next()?;
+        self.settle()
+    }
+}
