@@ -10,3 +10,4 @@ mod Falling
 mod Going
 mod Passing
 mod Beginning
+mod Rows

@@ -5,10 +5,12 @@
 #![tactic(auto)]
 
 mod choosing;
+mod laws;
 mod merge;
 mod moving;
 mod step;
 mod visible;
 
+pub use laws::law_visible;
 pub use merge::Merge;
 pub use visible::Visible;
