@@ -1,11 +1,11 @@
 -- Where a view's walk on begins.
-use Rattle.std.proofs.Common.{◌≡◌, ◌≢◌, ℕ, zero, suc, ◌<◌, ◌≤◌, ◌⊎◌, inl, inr, Bool, true, false, not, ◌&&◌, ◌||◌, List, [], ◌∷◌, Option, Some, None, length, drop, refl, sym, ap, ◌∙◌, subst, arith}
+use Rattle.std.proofs.Common.{◌≡◌, ℕ, suc, ◌<◌, ◌⊎◌, inl, inr, Bool, true, false, ◌&&◌, ◌||◌, List, [], ◌∷◌, Option, Some, None, length, drop, refl, sym, ap, ◌∙◌, subst, arith}
 use Rattle.std.specs.Prelude.{if◌then◌else◌, slice_get, nat_lt, IfSome}
-use Rattle.std.proofs.lemmas.Bool.{true≢false, false≢true, false_from_ne_true, or_parts, ltb-true}
+use Rattle.std.proofs.lemmas.Bool.{true≢false, false_from_ne_true, or_parts}
 use Rattle.std.proofs.lemmas.Bool.Decides.{nat_tests}
 use Rattle.peb_base.specs.Keys.{Bytes, key_lt, key_eq}
 use Rattle.peb_base.specs.Cursors.{place_in, place_from, entry_at, first_place, next_place, StandsAmong}
-use Rattle.peb_base.specs.Entries.{AreSorted, AscendFrom, comes_before, entry_lt, first_from, IsEntry}
+use Rattle.peb_base.specs.Entries.{AreSorted, AscendFrom, comes_before, first_from}
 use Rattle.peb_base.specs.EntryLaws.{before_trans}
 use Rattle.peb_base.specs.KeyLaws.{same_key}
 use Rattle.peb_base.specs.Members.{IsIn}
@@ -50,12 +50,11 @@ next_ahead g among n key c es place s = by place s.at s.same s.inside st.inside 
     by (Some p) None same inside within shown = let r = got vs p inside in cc (sym same ∙ r.1)
     by (Some p) (Some k) same inside within shown =
         let r = got vs p inside in
-        let at : slice_get es k ≡ Some r.0 = sym same ∙ r.1 in
-        (
+        let at : slice_get es k ≡ Some r.0 = sym same ∙ r.1 in (
           suc p,
           ap (λ o. seen n (key_of key o) (rest es (place_in es (suc k)))) (shown ∙ at)
-          ∙ ap (seen n r.0.key) (rest_in es (suc k))
-          ∙ behind_seen n [] 0 [] es k p r.0 st.sorted at r.1,
+              ∙ ap (seen n r.0.key) (rest_in es (suc k))
+              ∙ behind_seen n [] 0 [] es k p r.0 st.sorted at r.1,
           refl,
         )
 
@@ -75,7 +74,7 @@ seen_same n key other (y ∷ es) a b =
     same : is_passed n key y ≡ is_passed n other y
     same = ap (λ t. nat_lt n y.number || t) (a y (inl refl) ∙ sym (b y (inl refl)))
 
-no_empty : (from : Bytes) (number : ℕ) (es : List Entry) → AscendFrom from number es → (x : Entry)
+pub no_empty : (from : Bytes) (number : ℕ) (es : List Entry) → AscendFrom from number es → (x : Entry)
     → IsIn x es → key_eq x.key [] ≡ false
 no_empty from number [] h x i = absurd i
 no_empty from number (y ∷ es) h x i = elim i [

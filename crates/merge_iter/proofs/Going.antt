@@ -1,11 +1,11 @@
 -- A walk on that stops at what a number sees.
-use Rattle.std.proofs.Common.{◌≡◌, ◌≢◌, ℕ, zero, suc, ◌+◌, ◌<◌, ◌≤◌, ◌⊎◌, inl, inr, Bool, true, false, not, ◌&&◌, ◌||◌, List, [], ◌∷◌, Option, Some, None, length, drop, refl, sym, ap, ◌∙◌, subst, arith}
+use Rattle.std.proofs.Common.{◌≡◌, ℕ, zero, suc, ◌<◌, ◌≤◌, ◌⊎◌, inl, inr, Bool, true, false, not, ◌||◌, List, [], ◌∷◌, Option, Some, None, length, drop, refl, sym, ap, ◌∙◌, subst, arith}
 use Rattle.std.specs.Prelude.{if◌then◌else◌, slice_get, nat_lt, IfSome}
-use Rattle.std.proofs.lemmas.Bool.{true≢false, false≢true, or_parts, ltb-true, lt-ltb}
+use Rattle.std.proofs.lemmas.Bool.{true≢false, false≢true, or_parts}
 use Rattle.std.proofs.lemmas.Bool.Decides.{nat_tests}
-use Rattle.peb_base.specs.Keys.{Bytes, key_lt, key_eq}
-use Rattle.peb_base.specs.Cursors.{place_in, entry_at, first_place, next_place, StandsAmong}
-use Rattle.peb_base.specs.Entries.{AreSorted, AscendFrom, entry_lt, comes_before, first_from, IsEntry}
+use Rattle.peb_base.specs.Keys.{Bytes}
+use Rattle.peb_base.specs.Cursors.{place_in, entry_at, next_place, StandsAmong}
+use Rattle.peb_base.specs.Entries.{AscendFrom}
 use Rattle.peb_base.specs.EntryLaws.{entry_irrefl}
 use Rattle.peb_base.specs.Members.{IsIn}
 use Rattle.peb_base.specs.Sorting.{behind_first}
@@ -166,7 +166,7 @@ seen_in n key (y ∷ es) x i =
     by false true (inl s) ih = inl s
     by false true (inr j) ih = inr (ih y.key j)
 
-never_behind : (e : Entry) (es : List Entry) → AscendFrom e.key e.number es → IsIn e es → ⊥
+pub never_behind : (e : Entry) (es : List Entry) → AscendFrom e.key e.number es → IsIn e es → ⊥
 never_behind e es h i = true≢false (sym (behind_first e e es h i) ∙ entry_irrefl e)
 
 some_is : (a b : Entry) → Some a ≡ Some b → a ≡ b

@@ -11,3 +11,5 @@ mod Going
 mod Passing
 mod Beginning
 mod Rows
+mod Returning
+mod Turning

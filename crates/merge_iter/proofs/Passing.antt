@@ -1,7 +1,6 @@
 -- A view that goes on over what isn't seen.
-use Rattle.std.proofs.Common.{◌≡◌, ℕ, ◌≤◌, Bool, true, false, List, Option, refl, sym, ap, ◌∙◌, subst, arith}
-use Rattle.peb_base.specs.Keys.{Bytes}
-use Rattle.peb_base.specs.Cursors.{next_place, entry_at, place_in}
+use Rattle.std.proofs.Common.{◌≡◌, ℕ, ◌≤◌, true, false, List, Option, sym, subst, arith}
+use Rattle.peb_base.specs.Cursors.{next_place, place_in}
 use Rattle.peb_base.specs.declared.cursor.Cursor.{Ghosts}
 use Rattle.peb_base.specs.declared.entry.Entry.{Entry}
 use Rattle.merge_iter.specs.Seeing.{is_hidden, key_after, IsAhead, Sees, visible}
@@ -36,11 +35,11 @@ went_further {C} g among kept_on old l k n w is hidden =
             next_place es r.0,
             goes es r.0 r.1,
             subst (λ m. IsAhead old.number (key_after m l.key (g.shows l.inner)) es (next_place es r.0) p)
-            (sym w.number)
-            (subst (λ o. IsAhead old.number (key_after old.number l.key o) es (next_place es r.0) p) (sym shown)
-            (step_on old.number l.key es r.0 p
-            (subst (λ o. is_hidden old.number l.key o ≡ true) shown
-            (subst (λ m. is_hidden m l.key (g.shows l.inner) ≡ true) w.number hidden)) r.2)),
+                (sym w.number)
+                (subst (λ o. IsAhead old.number (key_after old.number l.key o) es (next_place es r.0) p) (sym shown)
+                (step_on old.number l.key es r.0 p
+                (subst (λ o. is_hidden old.number l.key o ≡ true) shown
+                (subst (λ m. is_hidden m l.key (g.shows l.inner) ≡ true) w.number hidden)) r.2)),
           );
       later = (let a = w.later in omega (arith, a, later));
       keeps = kept_on old.inner l.inner n w.keeps keeps;

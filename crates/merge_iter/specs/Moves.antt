@@ -64,12 +64,13 @@ pub record Sought {C : Type 0} (g : Ghosts C) (key : Bytes) (number : ℕ) (old 
   pub behind : (e : Entry) → g.shows new ≡ Some e → comes_before e.key e.number key number ≡ false
   pub remains : Remains g old new
 
--- it refused, with damage only where that stands, and with a fault only where the device failed
+-- it refused and stands nowhere, with damage only where that stands, and with a fault only where the device failed
 pub record Failed {C : Type 0} (g : Ghosts C) (e : ReadFault) (old new : C) : Type 0 where
   pub goes : (es : List Entry) (place : Option ℕ) → g.stands old es place
       → LeadsTo (g.stands new es) place (Err e)
   pub counts : CountsFaults (g.faults old) (g.faults new) (Err e)
   pub damage : IfDamage {T = Unit {0}} (Err e) (g.damaged new)
+  pub nothing : g.shows new ≡ None
   pub remains : Remains g old new
 
 -- it made the step, or refused

@@ -1,5 +1,5 @@
 -- What a number sees of sorted entries.
-use Rattle.std.specs.Prelude.{◌≡◌, ℕ, ◌<◌, Bool, true, false, not, ◌&&◌, ◌||◌, nat_lt, if◌then◌else◌, List, [], ◌∷◌, drop, length, map, Option, Some, None, IfSome}
+use Rattle.std.specs.Prelude.{◌≡◌, ℕ, suc, ◌<◌, Bool, true, false, not, ◌&&◌, ◌||◌, nat_lt, if◌then◌else◌, List, [], ◌∷◌, drop, take, slice_get, length, map, Option, Some, None, IfSome}
 use Rattle.peb_base.specs.Cursors.{entry_at}
 use Rattle.peb_base.specs.Entries.{AreSorted, value_of}
 use Rattle.peb_base.specs.Keys.{Bytes, key_eq}
@@ -72,3 +72,23 @@ rest es (Some n) = drop n es
 -- the visible ones from p on are those that can still be seen from this place on
 abbrev pub IsAhead : ℕ → Bytes → List Entry → Option ℕ → ℕ → Type 0
 IsAhead n key es at p = seen n key (rest es at) ≡ drop p (visible n es)
+
+-- ---- back
+
+-- the entry is a put numbered at most n
+abbrev pub is_found : ℕ → Option Entry → Bool
+is_found n None = false
+is_found n (Some e) = not (nat_lt n e.number) && puts e.change
+
+-- a walk back goes on: it has found no put, or the entry is one of the same key, numbered at most n too
+abbrev pub looks_back : ℕ → Bytes → Bool → Option Entry → Bool
+looks_back n key found None = false
+looks_back n key found (Some e) = not found || (not (nat_lt n e.number) && key_eq e.key key)
+
+-- a walk back over all but the first r entries leaves these to be seen; where it has found a put, the
+-- entry behind the r first ones is that, and older ones of its key are gone over
+abbrev pub IsBack : ℕ → Bytes → List Entry → ℕ → List Entry → Bool → Type 0
+IsBack n key es r left false = seen n [] (take r es) ≡ left
+IsBack n key es r left true =
+    (e : Entry) × (slice_get es r ≡ Some e) × (e.key ≡ key) × (is_found n (Some e) ≡ true)
+    × (seen n [] (take (suc r) es) ≡ left)

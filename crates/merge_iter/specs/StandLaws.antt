@@ -63,7 +63,7 @@ all_pass : (es : List Entry) → passed (λ x. true) es ≡ length es
 all_pass [] = refl
 all_pass (e ∷ es) = ap suc (all_pass es)
 
-last_there : (es : List Entry) (n : ℕ) → n ≤ length es → length es ≤ n → last_place es ≡ previous_place (Some n)
+pub last_there : (es : List Entry) (n : ℕ) → n ≤ length es → length es ≤ n → last_place es ≡ previous_place (Some n)
 last_there [] zero h g = refl
 last_there [] (suc n) h g = absurd (omega (arith, h))
 last_there (e ∷ es) zero h g = absurd (omega (arith, g))

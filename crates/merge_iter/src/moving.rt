@@ -8,7 +8,7 @@ use crate::step::Step;
 use peb_base::{Cursor, Number, ReadFault};
 
 /// Goes one entry on with a cursor, and from no place to its first one.
-fn go_on<C: Cursor>(input: &mut C) -> Result<(), ReadFault>
+pub fn go_on<C: Cursor>(input: &mut C) -> Result<(), ReadFault>
     ensures { Went C.Cursor steps.Next input.old input.new result }
 {
     if input.at().is_none() {

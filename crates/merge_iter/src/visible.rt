@@ -1,11 +1,12 @@
 //! What a number sees of a cursor's entries.
 
-ghost use Rattle.std.specs.Prelude.{◌≡◌, ◌<◌, ◌≤◌, [], ℕ, false, true, not, List, Option, Some, None, IfSome, OnErr, option_map, nat_lt};
+ghost use Rattle.std.specs.Prelude.{◌≡◌, ◌<◌, ◌≤◌, [], ℕ, false, true, not, List, Option, Some, None, IfSome, OnErr, length, option_map, take};
 ghost use Rattle.peb_base.specs.Cursors.{place_in, place_from, first_place, last_place, next_place, previous_place, LeadsTo, CountsFaults, IfDamage};
 ghost use Rattle.peb_base.specs.EntryRefs.{entry_of};
 ghost use Rattle.peb_base.specs.declared.entry.Entry.{Entry};
-ghost use Rattle.merge_iter.specs.Seeing.{visible, Sees, put_at_most, puts, is_passed, is_hidden, key_after, key_of, IsAhead};
+ghost use Rattle.merge_iter.specs.Seeing.{visible, Sees, put_at_most, puts, is_passed, is_hidden, key_after, key_of, IsAhead, IsBack, is_found, looks_back, seen};
 
+use crate::moving::go_on;
 use peb_base::{ChangeRef, Cursor, EntryRef, KeyBuf, Number, ReadFault};
 
 /// What a number sees of a cursor's entries: of each key the newest entry at or below the number, unless
@@ -192,5 +193,113 @@ impl<C: Cursor> Visible<C> {
         self.keep_key();
         self.inner.next()?;
         self.settle()
+    }
+
+    /// Whether a walk back goes on over the cursor's entry.
+    fn goes_back(&self, found: bool) -> bool
+        ensures { result ≡ looks_back self.now.number self.now.key found (C.shows self.now.inner) }
+    {
+        let Some(entry) = self.inner.at() else {
+            return false;
+        };
+        if !found {
+            return true;
+        }
+        entry.number <= self.number.packed() && entry.key == self.key.bytes()
+    }
+
+    /// Whether the cursor's entry is a put at or below the number.
+    fn finds(&self) -> bool
+        ensures { result ≡ is_found self.now.number (C.shows self.now.inner) }
+    {
+        let Some(entry) = self.inner.at() else {
+            return false;
+        };
+        entry.number <= self.number.packed() && is_put(&entry)
+    }
+
+    /// Turns to the put that a walk back has found, one entry behind where it stands.
+    fn turn(&mut self, found: bool) -> Result<(), ReadFault>
+        // what it gives
+        ensures goes { (es : List Entry) (r : ℕ) (left : List Entry)
+            → C.stands self.old.inner es (previous_place (Some r))
+            → IsBack self.old.number self.old.key es r left found
+            → looks_back self.old.number self.old.key found (C.shows self.old.inner) ≡ false
+            → LeadsTo (SeesIn C.Cursor self.new es) (previous_place (Some (length left))) result }
+        // what it leaves
+        ensures nothing { OnErr result (C.shows self.new.inner ≡ None) }
+        // when it fails
+        ensures counts { CountsFaults (C.faults self.old.inner) (C.faults self.new.inner) result }
+        ensures damage { IfDamage result (C.damaged self.new.inner) }
+        // what stays
+        ensures number { self.new.number ≡ self.old.number }
+        ensures keeps { C.keeps self.old.inner self.new.inner }
+    {
+        if !found {
+            return Ok(());
+        }
+        self.key.put(0, &[]);
+        go_on(&mut self.inner)?;
+        self.settle()
+    }
+
+    /// Goes back to the last visible entry at or before where it stands, or to no place.
+    fn settle_back(&mut self) -> Result<(), ReadFault>
+        // what it gives
+        ensures goes { (es : List Entry) (r : ℕ) → C.stands self.old.inner es (previous_place (Some r))
+            → LeadsTo (SeesIn C.Cursor self.new es)
+            (previous_place (Some (length (seen self.old.number [] (take r es))))) result }
+        // what it leaves
+        ensures nothing { OnErr result (C.shows self.new.inner ≡ None) }
+        // when it fails
+        ensures counts { CountsFaults (C.faults self.old.inner) (C.faults self.new.inner) result }
+        ensures damage { IfDamage result (C.damaged self.new.inner) }
+        // what stays
+        ensures number { self.new.number ≡ self.old.number }
+        ensures keeps { C.keeps self.old.inner self.new.inner }
+    {
+        let mut found = false;
+        while self.goes_back(found) {
+            found = self.finds();
+            self.keep_key();
+            self.inner.prev()?;
+        }
+        self.turn(found)
+    }
+
+    /// Goes to the last visible entry, or to no place where there is none.
+    pub fn last(&mut self) -> Result<(), ReadFault>
+        // what it gives
+        ensures goes { (es : List Entry) (place : Option ℕ) → SeesIn C.Cursor self.old es place
+            → LeadsTo (SeesIn C.Cursor self.new es) (last_place (visible (number_of_view self.old) es)) result }
+        // what it leaves
+        ensures nothing { OnErr result (seen_by C.Cursor self.new ≡ None) }
+        // when it fails
+        ensures counts { CountsFaults (C.faults (inner_of self.old)) (C.faults (inner_of self.new)) result }
+        ensures damage { IfDamage result (C.damaged (inner_of self.new)) }
+        // what stays
+        ensures number { number_of_view self.new ≡ number_of_view self.old }
+        ensures keeps { C.keeps (inner_of self.old) (inner_of self.new) }
+    {
+        self.inner.last()?;
+        self.settle_back()
+    }
+
+    /// Goes one visible entry back, or to no place before the first. At no place it stays there.
+    pub fn prev(&mut self) -> Result<(), ReadFault>
+        // what it gives
+        ensures goes { (es : List Entry) (place : Option ℕ) → SeesIn C.Cursor self.old es place
+            → LeadsTo (SeesIn C.Cursor self.new es) (previous_place place) result }
+        // what it leaves
+        ensures nothing { OnErr result (seen_by C.Cursor self.new ≡ None) }
+        // when it fails
+        ensures counts { CountsFaults (C.faults (inner_of self.old)) (C.faults (inner_of self.new)) result }
+        ensures damage { IfDamage result (C.damaged (inner_of self.new)) }
+        // what stays
+        ensures number { number_of_view self.new ≡ number_of_view self.old }
+        ensures keeps { C.keeps (inner_of self.old) (inner_of self.new) }
+    {
+        self.inner.prev()?;
+        self.settle_back()
     }
 }

@@ -2,7 +2,6 @@ use Rattle.std.proofs.Common.{sym, ap, ◌∙◌, subst}
 use Rattle.peb_base.specs.Cursors.{next_place, place_in, LeadsTo}
 use Rattle.merge_iter.specs.Seeing.{IsAhead, visible}
 use Rattle.merge_iter.specs.VisibleViews.{SeesIn}
-use Rattle.merge_iter.specs.declared.visible.Visible.{Visible}
 use Rattle.merge_iter.proofs.Beginning.{next_ahead}
 use Rattle.merge_iter.proofs.visible.Visible.next.Goals as goal
 
