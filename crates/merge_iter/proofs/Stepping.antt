@@ -1,5 +1,5 @@
 -- A step of the merge, on or back.
-use Rattle.std.proofs.Common.{◌≡◌, ◌≢◌, ℕ, ◌<◌, ◌≤◌, ◌⊎◌, inl, inr, Bool, true, false, not, List, [], ◌∷◌, ◌++◌, Option, Some, None, Result, length, map, refl, sym, ap, ◌∙◌, subst, arith}
+use Rattle.std.proofs.Common.{◌≡◌, ◌≢◌, ℕ, ◌<◌, ◌≤◌, ◌⊎◌, inl, inr, Bool, true, false, not, List, [], ◌∷◌, ◌++◌, Option, Some, None, Result, length, map, refl, sym, ap, ◌∙◌, subst, arith, Ok, Err}
 use Rattle.std.specs.Prelude.{if◌then◌else◌, get_or, is_some, IfSome, OnOk}
 use Rattle.std.proofs.lemmas.Bool.{true≢false, false≢true, and_parts, not-true, cases_eq}
 use Rattle.peb_base.specs.Cursors.{entry_at, LeadsTo}
@@ -14,13 +14,13 @@ use Rattle.merge_iter.specs.Moves.{target, step_in, Moved, Of, OnlyAt}
 use Rattle.merge_iter.specs.StandLaws.{Among, head_is, head_inside, some_of}
 use Rattle.merge_iter.specs.Standing.{Merged, Stands}
 use Rattle.merge_iter.specs.Totals.{total, left, steps_left}
-use Rattle.merge_iter.specs.Walking.{WentOver}
+use Rattle.merge_iter.specs.Walking.{IsCurrent, WentThrough, WentOver}
 use Rattle.merge_iter.specs.declared.step.Step.TheVariants.{Next, Previous}
 use Rattle.merge_iter.proofs.Counting.{fewer_left, left_less, nothing_left}
 use Rattle.merge_iter.proofs.Firsts.{current_shows}
 use Rattle.merge_iter.proofs.Landing.{leads, on_ok, or_nothing, where_shown}
 use Rattle.merge_iter.proofs.Leading.{step_stands, shows_there}
-use Rattle.merge_iter.proofs.Walked.{Ascends, walks_on}
+use Rattle.merge_iter.proofs.Walked.{Ascends, walks_on, walk_on}
 
 -- the others give way to the current one
 abbrev pub Way : {C : Type 0} → Ghosts C → Merged C → Type 0
@@ -95,18 +95,34 @@ module _ {C : Type 0} (g : Ghosts C) (old new : Merged C) (way : Way g old) (i :
 
   -- ---- on
 
-  pub next_walks : Ascends g → (only : Option ℕ) → only ≡ (if old.is_back then None else Some i)
+  some_place : (j : ℕ) → old.current ≡ Some j → i ≡ j
+  some_place j is = cc (sym current ∙ is)
+
+  pub next_gives : Ascends g → (only : Option ℕ) → only ≡ (if old.is_back then None else Some i)
       → (result : Result (Unit {0}) ReadFault)
       → Landed g (Of (Moved g Next) only) false old new result
+      → OnOk result ((given : List (ℕ × Entry)) (t : ℕ × Entry) → IsCurrent g old t
+      → WentThrough g old given → WentThrough g new (given ++ t ∷ []))
+  next_gives ascends only one result landed =
+      on_ok g (Of (Moved g Next) only) false old new _
+      (λ m is chosen given t here through.
+      let same : i ≡ t.0 = some_place t.0 here.0 in
+      subst (λ k. WentThrough g new (given ++ (k, t.1) ∷ [])) same
+      (walks_on g ascends old new given t.1 through i current
+      (sym (ap (current_head (map g.shows old.inputs)) current) ∙ here.1)
+      (subst (λ o. Of (Moved g Next) o old.inputs new.inputs)
+      (one ∙ ap (λ b. if b then None else Some i) through.on) m) is chosen)) result landed
+
+  pub next_walks : (result : Result (Unit {0}) ReadFault)
+      → OnOk result ((given : List (ℕ × Entry)) (t : ℕ × Entry) → IsCurrent g old t
+      → WentThrough g old given → WentThrough g new (given ++ t ∷ []))
       → OnOk result ((es : List Entry) (e : Entry)
       → current_head (map g.shows old.inputs) old.current ≡ Some e → WentOver g old es
       → WentOver g new (es ++ e ∷ []))
-  next_walks ascends only one result landed =
-      on_ok g (Of (Moved g Next) only) false old new _
-      (λ m is chosen es e shown walk. walks_on g ascends old new es e walk i current
-      (sym (ap (current_head (map g.shows old.inputs)) current) ∙ shown)
-      (subst (λ o. Of (Moved g Next) o old.inputs new.inputs)
-      (one ∙ ap (λ b. if b then None else Some i) walk.on) m) is chosen) result landed
+  next_walks (Ok x) gives =
+      λ es e shown walk. walk_on g new walk.given es (i, e) walk.is
+      (gives walk.given (i, e) (current, shown) walk.through)
+  next_walks (Err f) gives = tt
 
   -- ---- back
 

@@ -14,7 +14,7 @@ use Rattle.merge_iter.specs.Heads.{head_at, meets_first, takes, IsChosen, IsFirs
 use Rattle.merge_iter.specs.Moves.{Moved, Each, OnlyAt}
 use Rattle.merge_iter.specs.StandLaws.{head_is, head_inside}
 use Rattle.merge_iter.specs.Standing.{Merged}
-use Rattle.merge_iter.specs.Walking.{tagged_lt, from_input, NeverBack, WentOver}
+use Rattle.merge_iter.specs.Walking.{tagged_lt, from_input, NeverBack, WentOver, WentThrough}
 use Rattle.merge_iter.specs.declared.step.Step.TheVariants.{First, Next}
 
 -- ---- lists
@@ -117,12 +117,10 @@ Ascends {C} g = (c : C) (es : List Entry) (e : Entry) → g.walks c es → g.sho
 
 pub begins : {C : Type 0} (g : Ghosts C) (old new : Merged C)
     → Each (Moved g First) old.inputs new.inputs → new.is_back ≡ false
-    → IsChosen false (map g.shows new.inputs) new.current → WentOver g new []
+    → IsChosen false (map g.shows new.inputs) new.current → WentThrough g new []
 begins g old new e is chosen = record {
   on = is;
   chosen = chosen;
-  given = [];
-  is = refl;
   gave = record {
     each = λ k d lt. (let long = e.same in e.each k d (omega (arith, lt, long))).steps;
     never_back = tt;
@@ -130,15 +128,18 @@ begins g old new e is chosen = record {
   };
 }
 
-module _ {C : Type 0} (g : Ghosts C) (law : Ascends g) (old new : Merged C) (es : List Entry) (e : Entry)
-    (w : WentOver g old es) (i : ℕ) (current : old.current ≡ Some i)
+pub begins_walk : {C : Type 0} (g : Ghosts C) (m : Merged C) → WentThrough g m [] → WentOver g m []
+begins_walk g m through = record { given = []; is = refl; through = through }
+
+module _ {C : Type 0} (g : Ghosts C) (law : Ascends g) (old new : Merged C)
+    (given : List (ℕ × Entry)) (e : Entry) (w : WentThrough g old given) (i : ℕ) (current : old.current ≡ Some i)
     (here : head_at (map g.shows old.inputs) i ≡ Some e)
     (m : OnlyAt (Moved g Next) i old.inputs new.inputs) where
   inside : i < length old.inputs
   inside = head_inside g old.inputs i e here
 
   abbrev given_on : List (ℕ × Entry)
-  given_on = w.given ++ (i, e) ∷ []
+  given_on = given ++ (i, e) ∷ []
 
   first : IsFirst false (map g.shows old.inputs) i e
   first = at (subst (IsChosen false (map g.shows old.inputs)) current w.chosen)
@@ -181,7 +182,7 @@ module _ {C : Type 0} (g : Ghosts C) (law : Ascends g) (old new : Merged C) (es 
 
   ahead_old : (t : ℕ × Entry) → IsIn t given_on → (k : ℕ) (h : Entry)
       → head_at (map g.shows old.inputs) k ≡ Some h → tagged_lt (k, h) t ≡ false
-  ahead_old t j k h is = elim (in_append t w.given ((i, e) ∷ []) j) [
+  ahead_old t j k h is = elim (in_append t given ((i, e) ∷ []) j) [
     | inl a ↦ w.gave.ahead t a k h is
     | inr b ↦ elim b [
       | inl s ↦ subst (λ (u : ℕ × Entry). tagged_lt (k, h) u ≡ false) (sym s) (least_is k h is)
@@ -189,8 +190,8 @@ module _ {C : Type 0} (g : Ghosts C) (law : Ascends g) (old new : Merged C) (es 
     ]
   ]
 
-  walks_here : (d : C) → g.walks (get_or new.inputs i d) (from_input i w.given ++ e ∷ [])
-  walks_here d = (m.at d).steps.walks (from_input i w.given) e
+  walks_here : (d : C) → g.walks (get_or new.inputs i d) (from_input i given ++ e ∷ [])
+  walks_here d = (m.at d).steps.walks (from_input i given) e
       (sym (head_is g old.inputs i d inside) ∙ here) (w.gave.each i d inside)
 
   ahead_here : (t : ℕ × Entry) → IsIn t given_on → (h : Entry)
@@ -198,9 +199,9 @@ module _ {C : Type 0} (g : Ghosts C) (law : Ascends g) (old new : Merged C) (es 
   ahead_here t j h is =
       let lt = head_inside g new.inputs i h is in
       let d = some_new new.inputs i lt in
-      let behind = law (get_or new.inputs i d) (from_input i w.given ++ e ∷ []) h (walks_here d)
+      let behind = law (get_or new.inputs i d) (from_input i given ++ e ∷ []) h (walks_here d)
       (sym (head_is g new.inputs i d lt) ∙ is) in
-      no_step_back i h e t.0 t.1 (all_last (λ f. entry_lt h f ≡ false) (from_input i w.given) e behind)
+      no_step_back i h e t.0 t.1 (all_last (λ f. entry_lt h f ≡ false) (from_input i given) e behind)
       (ahead_old t j i e here)
     where
       some_new : (cs : List C) (k : ℕ) → k < length cs → C
@@ -219,36 +220,43 @@ module _ {C : Type 0} (g : Ghosts C) (law : Ascends g) (old new : Merged C) (es 
   each_on : (k : ℕ) (d : C) → k < length new.inputs
       → g.walks (get_or new.inputs k d) (from_input k given_on)
   each_on k d lt =
-      subst (g.walks (get_or new.inputs k d)) (sym (from_push k w.given (i, e))) (by (cases_eq k i))
+      subst (g.walks (get_or new.inputs k d)) (sym (from_push k given (i, e))) (by (cases_eq k i))
     where
       by : (k ≡ i) ⊎ (k ≢ i) → g.walks (get_or new.inputs k d)
-          (from_input k w.given ++ (if nat_eq i k then e ∷ [] else []))
+          (from_input k given ++ (if nat_eq i k then e ∷ [] else []))
       by (inl same) =
           let test : nat_eq i k ≡ true = grind (arith, nat_tests, same) in
-          subst (λ b. g.walks (get_or new.inputs k d) (from_input k w.given ++ (if b then e ∷ [] else [])))
+          subst (λ b. g.walks (get_or new.inputs k d) (from_input k given ++ (if b then e ∷ [] else [])))
           (sym test)
-          (subst (λ n. g.walks (get_or new.inputs n d) (from_input n w.given ++ e ∷ [])) (sym same)
+          (subst (λ n. g.walks (get_or new.inputs n d) (from_input n given ++ e ∷ [])) (sym same)
           (walks_here d))
       by (inr other) =
           let test : nat_eq i k ≡ false = grind (arith, nat_tests, other) in
           let long = m.same in
-          subst (λ b. g.walks (get_or new.inputs k d) (from_input k w.given ++ (if b then e ∷ [] else [])))
+          subst (λ b. g.walks (get_or new.inputs k d) (from_input k given ++ (if b then e ∷ [] else [])))
           (sym test)
-          (subst (g.walks (get_or new.inputs k d)) (sym (no_more (from_input k w.given)))
-          (subst (λ c. g.walks c (from_input k w.given)) (sym (m.others k d other))
+          (subst (g.walks (get_or new.inputs k d)) (sym (no_more (from_input k given)))
+          (subst (λ c. g.walks c (from_input k given)) (sym (m.others k d other))
           (w.gave.each k d (omega (arith, lt, long)))))
 
   pub walks_on : new.is_back ≡ false → IsChosen false (map g.shows new.inputs) new.current
-      → WentOver g new (es ++ e ∷ [])
+      → WentThrough g new given_on
   walks_on is chosen = record {
     on = is;
     chosen = chosen;
-    given = given_on;
-    is = entries_push w.given (i, e) ∙ ap (λ fs. fs ++ e ∷ []) w.is;
     gave = record {
       each = each_on;
-      never_back = never_back_push w.given (i, e) w.gave.never_back
-          (λ u j. w.gave.ahead u j i e here);
+      never_back = never_back_push given (i, e) w.gave.never_back (λ u j. w.gave.ahead u j i e here);
       ahead = ahead_new;
     };
   }
+
+-- the entries go on as what was given does
+pub walk_on : {C : Type 0} (g : Ghosts C) (m : Merged C) (given : List (ℕ × Entry)) (es : List Entry)
+    (t : ℕ × Entry) → map (λ (u : ℕ × Entry). u.1) given ≡ es → WentThrough g m (given ++ t ∷ [])
+    → WentOver g m (es ++ t.1 ∷ [])
+walk_on g m given es t is through = record {
+  given = given ++ t ∷ [];
+  is = entries_push given t ∙ ap (λ fs. fs ++ t.1 ∷ []) is;
+  through = through;
+}

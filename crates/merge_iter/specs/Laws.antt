@@ -55,7 +55,7 @@ module _ {C : Type 0} (g : Ghosts C) where
   walk_ascends m es e walk there =
       let at = shown_input m e there in
       subst (ComesBeforeNone e) walk.is
-      (behind_all e at.0 walk.given (λ t i. walk.gave.ahead t i at.0 e at.2))
+      (behind_all e at.0 walk.given (λ t i. walk.through.gave.ahead t i at.0 e at.2))
 
   -- ---- steps
 

@@ -5,7 +5,7 @@ use Rattle.peb_base.specs.Entries.{entry_lt}
 use Rattle.peb_base.specs.Members.{IsIn}
 use Rattle.peb_base.specs.declared.cursor.Cursor.{Ghosts}
 use Rattle.peb_base.specs.declared.entry.Entry.{Entry}
-use Rattle.merge_iter.specs.Heads.{head_at, IsChosen}
+use Rattle.merge_iter.specs.Heads.{head_at, current_head, IsChosen}
 use Rattle.merge_iter.specs.Standing.{Merged}
 
 -- an entry with the place of its input comes before another: in entry order, and of the same key and
@@ -30,10 +30,20 @@ pub record Gave {C : Type 0} (g : Ghosts C) (inputs : List C) (given : List (ℕ
   pub ahead : (t : ℕ × Entry) → IsIn t given → (k : ℕ) (h : Entry)
       → head_at (map g.shows inputs) k ≡ Some h → tagged_lt (k, h) t ≡ false
 
--- the merge went on over these entries, and goes on with the first that is ahead
-pub record WentOver {C : Type 0} (g : Ghosts C) (m : Merged C) (es : List Entry) : Type 0 where
+-- the merge went on and gave these entries, each with the place of its input, and goes on with the first
+-- that is ahead
+pub record WentThrough {C : Type 0} (g : Ghosts C) (m : Merged C) (given : List (ℕ × Entry)) : Type 0 where
   pub on : m.is_back ≡ false
   pub chosen : IsChosen false (map g.shows m.inputs) m.current
+  pub gave : Gave g m.inputs given
+
+-- the merge went on over these entries
+pub record WentOver {C : Type 0} (g : Ghosts C) (m : Merged C) (es : List Entry) : Type 0 where
   pub given : List (ℕ × Entry)
   pub is : map (λ (t : ℕ × Entry). t.1) given ≡ es
-  pub gave : Gave g m.inputs given
+  pub through : WentThrough g m given
+
+-- the place of the current input, with the entry that the merge shows
+abbrev pub IsCurrent : {C : Type 0} → Ghosts C → Merged C → ℕ × Entry → Type 0
+IsCurrent g m t =
+    (m.current ≡ Some t.0) × (current_head (map g.shows m.inputs) m.current ≡ Some t.1)

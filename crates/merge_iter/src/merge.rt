@@ -33,6 +33,7 @@ impl<C: Cursor> Merge<C> {
     ghost use Rattle.merge_iter.specs.Landed.{Landed};
     ghost use Rattle.merge_iter.specs.Parts.{AreParts};
     ghost use Rattle.merge_iter.specs.Standing.{StandEach};
+    ghost use Rattle.merge_iter.specs.Walking.{Gave, WentThrough};
     ghost use Rattle.merge_iter.specs.Views.{merged_of, heads_of, shown_by, StandsIn, WalksIn, back_of, faults_of, Keeps, DamageIn};
 
     /// Takes cursors in, wherever they stand, and stands at no place.
@@ -83,9 +84,12 @@ impl<C: Cursor> Merge<C> {
         self.current
     }
 
-    /// Gives the inputs back, in their order, wherever they stand.
+    /// Gives the inputs back, in their order, wherever they stand. Where the merge only went on since its
+    /// first entry, each can have gone over just what it gave.
     pub fn close(self) -> Vec<C>
-        ensures { result.items ≡ (merged_of self).inputs }
+        ensures inputs { result.items ≡ (merged_of self).inputs }
+        ensures gave { (given : List (ℕ × Entry)) → WentThrough C.Cursor (merged_of self) given
+            → Gave C.Cursor result.items given }
     {
         let Merge {
             inputs,
@@ -203,6 +207,7 @@ impl<C: Cursor> Merge<C> {
 }
 
 impl<C: Cursor> Cursor for Merge<C> {
+    ghost use Rattle.merge_iter.specs.Walking.{IsCurrent, WentThrough};
     ghost use Rattle.merge_iter.specs.Laws.{stands_among, shows_within, walk_ascends, steps_bounded, keeps_self, keeps_on, damage_stays, size_stays};
     ghost use Rattle.merge_iter.specs.Views.{merged_of, shown_by, StandsIn, WalksIn, ahead_of, back_of, size_of, faults_of, Keeps, DamageIn};
 
@@ -248,7 +253,24 @@ impl<C: Cursor> Cursor for Merge<C> {
         self.settle(moved, false)
     }
 
-    fn first(&mut self) -> Result<(), ReadFault> {
+    /// Goes to the first entry of all, or to no place where there is none.
+    fn first(&mut self) -> Result<(), ReadFault>
+        // what it gives
+        ensures goes { (es : List Entry) (place : Option ℕ)
+            → StandsIn C.Cursor (merged_of self.old) es place
+            → LeadsTo (StandsIn C.Cursor (merged_of self.new) es) (first_place es) result }
+        ensures gives { OnOk result (WentThrough C.Cursor (merged_of self.new) []) }
+        ensures walks { OnOk result (WalksIn C.Cursor (merged_of self.new) []) }
+        // what it leaves
+        ensures nothing { OnErr result (shown_by C.Cursor (merged_of self.new) ≡ None) }
+        ensures refused { (merged_of self.new).refused ≡ refusal result }
+        // when it fails
+        ensures counts { CountsFaults (faults_of C.Cursor (merged_of self.old))
+            (faults_of C.Cursor (merged_of self.new)) result }
+        ensures damage { IfDamage result (DamageIn C.Cursor (merged_of self.new)) }
+        // what stays
+        ensures keeps { Keeps C.Cursor (merged_of self.old) (merged_of self.new) }
+    {
         self.go(None, Step::First, false)
     }
 
@@ -256,7 +278,35 @@ impl<C: Cursor> Cursor for Merge<C> {
         self.go(None, Step::Last, true)
     }
 
-    fn next(&mut self) -> Result<(), ReadFault> {
+    /// Goes one entry on, or to no place behind the last. At no place it answers Ok and stays there. What
+    /// it gave before is gone on by the entry that it showed, with the place of its input.
+    fn next(&mut self) -> Result<(), ReadFault>
+        // what it gives
+        ensures goes { (es : List Entry) (place : Option ℕ)
+            → StandsIn C.Cursor (merged_of self.old) es place
+            → LeadsTo (StandsIn C.Cursor (merged_of self.new) es) (next_place es place) result }
+        ensures gives { OnOk result ((given : List (ℕ × Entry)) (t : ℕ × Entry)
+            → IsCurrent C.Cursor (merged_of self.old) t
+            → WentThrough C.Cursor (merged_of self.old) given
+            → WentThrough C.Cursor (merged_of self.new) (given ++ t ∷ [])) }
+        ensures walks { OnOk result ((es : List Entry) (e : Entry)
+            → shown_by C.Cursor (merged_of self.old) ≡ Some e
+            → WalksIn C.Cursor (merged_of self.old) es
+            → WalksIn C.Cursor (merged_of self.new) (es ++ e ∷ [])) }
+        ensures fewer { (e : Entry) → shown_by C.Cursor (merged_of self.old) ≡ Some e
+            → ahead_of C.Cursor (merged_of self.new) < ahead_of C.Cursor (merged_of self.old) }
+        ensures stays { shown_by C.Cursor (merged_of self.old) ≡ None
+            → IsOk result × (shown_by C.Cursor (merged_of self.new) ≡ None) }
+        // what it leaves
+        ensures nothing { OnErr result (shown_by C.Cursor (merged_of self.new) ≡ None) }
+        ensures refused { (merged_of self.new).refused ≡ refusal result }
+        // when it fails
+        ensures counts { CountsFaults (faults_of C.Cursor (merged_of self.old))
+            (faults_of C.Cursor (merged_of self.new)) result }
+        ensures damage { IfDamage result (DamageIn C.Cursor (merged_of self.new)) }
+        // what stays
+        ensures keeps { Keeps C.Cursor (merged_of self.old) (merged_of self.new) }
+    {
         let Some(place) = self.current else {
             self.refused = None;
             return Ok(());

@@ -43,9 +43,26 @@ impl<C: Cursor> Visible<C> {
     /// Sees a cursor's entries at a number, at no place. The cursor stands at no place.
     pub fn new(inner: C, number: Number) -> Visible<C>
         requires nothing { C.shows inner ≡ None }
+        ensures sees { (es : List Entry) (at : Option ℕ) → C.stands inner es at
+            → SeesIn C.Cursor result es None }
         ensures inner { inner_of result ≡ inner }
         ensures number { number_of_view result ≡ number }
         ensures nothing { seen_by C.Cursor result ≡ None }
+    {
+        Visible {
+            inner,
+            number,
+            key: KeyBuf::new(),
+        }
+    }
+
+    /// Sees a cursor's entries at a number again. Where the cursor stands at an entry that the number
+    /// sees, it is at the place of that; it moves nothing.
+    pub fn resume(inner: C, number: Number) -> Visible<C>
+        ensures sees { (es : List Entry) (place : Option ℕ) → Sees C.Cursor number inner es place
+            → SeesIn C.Cursor result es place }
+        ensures inner { inner_of result ≡ inner }
+        ensures number { number_of_view result ≡ number }
     {
         Visible {
             inner,
