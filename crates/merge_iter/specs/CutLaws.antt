@@ -103,7 +103,8 @@ same_in back es x y sorted i j a b = by back a b (apart_in [] 0 es x y sorted i 
 
 -- ---- places
 
-pub place_there : (es : List Entry) (n : ℕ) (e : Entry) → slice_get es n ≡ Some e → place_in es n ≡ Some n
+pub place_there : (es : List Entry) (n : ℕ) (e : Entry) → slice_get es n ≡ Some e
+    → place_in es n ≡ Some n
 place_there es n e h =
     ap (λ b. if b then Some n else None) (lt-ltb n (length es) (get_inside es n e h))
 
@@ -128,7 +129,8 @@ none_in_list es n h = by (nat_lt n (length es)) refl
 -- ---- cuts
 
 module _ (cut : Entry → Bool) where
-  pub passed_true : (e : Entry) (es : List Entry) → cut e ≡ true → passed cut (e ∷ es) ≡ suc (passed cut es)
+  pub passed_true : (e : Entry) (es : List Entry) → cut e ≡ true
+      → passed cut (e ∷ es) ≡ suc (passed cut es)
   passed_true e es h = ap (λ b. if b then suc (passed cut es) else 0) h
 
   pub passed_false : (e : Entry) (es : List Entry) → cut e ≡ false → passed cut (e ∷ es) ≡ 0
@@ -139,7 +141,8 @@ module _ (cut : Entry → Bool) where
   passed_low [] = omega arith
   passed_low (e ∷ es) = by (cut e) refl (passed_low es)
     where
-      by : (b : Bool) → cut e ≡ b → passed cut es ≤ length es → passed cut (e ∷ es) ≤ suc (length es)
+      by : (b : Bool) → cut e ≡ b → passed cut es ≤ length es
+          → passed cut (e ∷ es) ≤ suc (length es)
       by true t h = let s = passed_true e es t in omega (arith, h, s)
       by false t h = let s = passed_false e es t in omega (arith, s)
 
@@ -279,7 +282,8 @@ module _ (cut : Entry → Bool) where
 
     pub none_beside : (back : Bool) (es : List Entry) → entry_at es (beside back cut es) ≡ None
         → beside back cut es ≡ None
-    none_beside false es none = none_in_list es (passed cut es) (sym (in_list es (passed cut es)) ∙ none)
+    none_beside false es none =
+        none_in_list es (passed cut es) (sym (in_list es (passed cut es)) ∙ none)
     none_beside true es none = by (passed cut es) refl none
       where
         by : (n : ℕ) → passed cut es ≡ n → entry_at es (previous_place (Some n)) ≡ None
@@ -291,7 +295,8 @@ module _ (cut : Entry → Bool) where
             cc (sym none ∙ r.1)
 
     -- the first entry on its side is where a cut leaves a walk
-    pub is_at_edge : (back : Bool) (es : List Entry) (e : Entry) → AreSorted es → IsEdge back cut es e
+    pub is_at_edge : (back : Bool) (es : List Entry) (e : Entry) → AreSorted es
+        → IsEdge back cut es e
         → entry_at es (beside back cut es) ≡ Some e
     is_at_edge back es e sorted edge = by (entry_at es (beside back cut es)) refl
       where

@@ -31,10 +31,12 @@ takes true j k = nat_lt k j
 
 -- the cursor at this place has this entry, and a walk in this direction meets no other before it, nor
 -- the same of a cursor that it takes before
-pub record IsFirst (back : Bool) (heads : List (Option Entry)) (place : ℕ) (e : Entry) : Type 0 where
+pub record IsFirst (back : Bool) (heads : List (Option Entry)) (place : ℕ)
+    (e : Entry) : Type 0 where
   pub at : head_at heads place ≡ Some e
   pub none_before : (k : ℕ) → meets_first back (head_at heads k) (Some e) ≡ false
-  pub taken : (k : ℕ) → takes back k place ≡ true → meets_first back (Some e) (head_at heads k) ≡ true
+  pub taken : (k : ℕ) → takes back k place ≡ true
+      → meets_first back (Some e) (head_at heads k) ≡ true
 
 -- the current cursor is the first in this direction, or none has an entry
 abbrev pub IsChosen : Bool → List (Option Entry) → Option ℕ → Type 0
@@ -44,7 +46,8 @@ IsChosen back heads (Some place) = (e : Entry) × IsFirst back heads place e
 -- of two cursors, the second of which has the earlier place, the first is taken before it
 abbrev pub is_better : Bool → List (Option Entry) → ℕ → ℕ → Bool
 is_better false heads place other = meets_first false (head_at heads place) (head_at heads other)
-is_better true heads place other = not (meets_first true (head_at heads other) (head_at heads place))
+is_better true heads place other =
+    not (meets_first true (head_at heads other) (head_at heads place))
 
 -- the current cursor has an entry, before which a walk in this direction doesn't meet that of the cursor at k
 abbrev pub gives_way : Bool → List (Option Entry) → Option ℕ → ℕ → Bool

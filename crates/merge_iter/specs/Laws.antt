@@ -33,7 +33,8 @@ module _ {C : Type 0} (g : Ghosts C) where
       by None is there = cc
       by (Some i) is there = (i, is, there)
 
-  pub shows_within : ((c : C) (e : Entry) → g.shows c ≡ Some e → IsEntry e) → (m : Merged C) (e : Entry)
+  pub shows_within : ((c : C) (e : Entry) → g.shows c ≡ Some e → IsEntry e)
+      → (m : Merged C) (e : Entry)
       → shown_by m ≡ Some e → IsEntry e
   shows_within within m e there =
       let at = shown_input m e there in
@@ -64,7 +65,8 @@ module _ {C : Type 0} (g : Ghosts C) where
   total_low f h (c ∷ cs) low =
       let a = low c in let b = total_low f h cs low in omega (arith, a, b)
 
-  left_low : ((c : C) → (g.ahead c ≤ g.size c) × (g.back c ≤ g.size c)) → (back turns : Bool) (c : C)
+  left_low : ((c : C) → (g.ahead c ≤ g.size c) × (g.back c ≤ g.size c))
+      → (back turns : Bool) (c : C)
       → left g back turns c ≤ g.size c
   left_low bounded back turns c = by (turns && is_none (g.shows c)) back
     where
@@ -79,14 +81,16 @@ module _ {C : Type 0} (g : Ghosts C) where
   few (Some i) n size h = omega (arith, h)
 
   pub steps_bounded : ((c : C) → (g.ahead c ≤ g.size c) × (g.back c ≤ g.size c)) → (m : Merged C)
-      → (steps_left m.current (total (left g false m.is_back) m.inputs) ≤ suc (total g.size m.inputs))
+      → (steps_left m.current (total (left g false m.is_back) m.inputs)
+      ≤ suc (total g.size m.inputs))
       × (steps_left m.current (total (left g true (not m.is_back)) m.inputs)
       ≤ suc (total g.size m.inputs))
   steps_bounded bounded m = (
     few m.current _ _
         (total_low (left g false m.is_back) g.size m.inputs (left_low bounded false m.is_back)),
     few m.current _ _
-        (total_low (left g true (not m.is_back)) g.size m.inputs (left_low bounded true (not m.is_back))),
+        (total_low (left g true (not m.is_back)) g.size m.inputs
+        (left_low bounded true (not m.is_back))),
   )
 
   -- ---- what stays
@@ -107,7 +111,8 @@ module _ {C : Type 0} (g : Ghosts C) where
   Damaged inputs number at =
       (k : ℕ) × (k < length inputs) × ((d : C) → g.damaged (get_or inputs k d) number at)
 
-  pub damage_stays : ((a b : C) (number at : ℕ) → g.keeps a b → g.damaged a number at ↔ g.damaged b number at)
+  pub damage_stays :
+      ((a b : C) (number at : ℕ) → g.keeps a b → g.damaged a number at ↔ g.damaged b number at)
       → (a b : Merged C) (number at : ℕ) → Each g.keeps a.inputs b.inputs
       → Damaged a.inputs number at ↔ Damaged b.inputs number at
   damage_stays stays a b number at x = (
@@ -116,14 +121,15 @@ module _ {C : Type 0} (g : Ghosts C) where
       (let same = x.same in let lt = h.1 in omega (arith, lt, same)),
       (λ d. (stays _ _ number at (x.each h.0 d h.1)).0 (h.2 d)),
     )),
-    (λ h. (
-      h.0,
-      (let same = x.same in let lt = h.1 in omega (arith, lt, same)),
-      (λ d. (stays _ _ number at (x.each h.0 d (let same = x.same in let lt = h.1 in omega (arith, lt, same)))).1 (h.2 d)),
-    )),
+    (λ h.
+        let same = x.same in
+        let lt = h.1 in
+        let inside : h.0 < length a.inputs = omega (arith, lt, same) in
+        (h.0, inside, (λ d. (stays _ _ number at (x.each h.0 d inside)).1 (h.2 d)))),
   )
 
-  size_same : ((a b : C) → g.keeps a b → g.size b ≡ g.size a) → (old new : List C) → Each g.keeps old new
+  size_same : ((a b : C) → g.keeps a b → g.size b ≡ g.size a) → (old new : List C)
+      → Each g.keeps old new
       → total g.size new ≡ total g.size old
   size_same same [] [] x = refl
   size_same same [] (b ∷ new) x = let long = x.same in absurd (omega (arith, long))

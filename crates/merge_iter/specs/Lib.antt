@@ -9,6 +9,7 @@ pub mod Seeing
 pub mod StandLaws
 pub mod Standing
 pub mod Totals
+pub mod Trials
 pub mod Views
 pub mod VisibleViews
 pub mod Walking

@@ -58,13 +58,15 @@ pub record Moved {C : Type 0} (g : Ghosts C) (step : Step) (old new : C) : Type 
   pub remains : Remains g old new
 
 -- it went to the first entry at or behind a key and number
-pub record Sought {C : Type 0} (g : Ghosts C) (key : Bytes) (number : ℕ) (old new : C) : Type 0 where
+pub record Sought {C : Type 0} (g : Ghosts C) (key : Bytes) (number : ℕ)
+    (old new : C) : Type 0 where
   pub goes : (es : List Entry) (place : Option ℕ) → g.stands old es place
       → g.stands new es (place_from key number es)
   pub behind : (e : Entry) → g.shows new ≡ Some e → comes_before e.key e.number key number ≡ false
   pub remains : Remains g old new
 
--- it refused and stands nowhere, with damage only where that stands, and with a fault only where the device failed
+-- it refused and stands nowhere, with damage only where that stands, and
+-- with a fault only where the device failed
 pub record Failed {C : Type 0} (g : Ghosts C) (e : ReadFault) (old new : C) : Type 0 where
   pub goes : (es : List Entry) (place : Option ℕ) → g.stands old es place
       → LeadsTo (g.stands new es) place (Err e)
@@ -79,7 +81,8 @@ Went g step old new (Ok x) = Moved g step old new
 Went g step old new (Err e) = Failed g e old new
 
 -- it found the key and number, or refused
-abbrev pub Searched : {C : Type 0} → Ghosts C → Bytes → ℕ → C → C → Result (Unit {0}) ReadFault → Type 0
+abbrev pub Searched : {C : Type 0} → Ghosts C → Bytes → ℕ → C → C → Result (Unit {0}) ReadFault
+    → Type 0
 Searched g key number old new (Ok x) = Sought g key number old new
 Searched g key number old new (Err e) = Failed g e old new
 

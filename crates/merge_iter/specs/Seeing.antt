@@ -36,7 +36,8 @@ ShowsVisible = (n : ℕ) (es : List Entry) → AreSorted es
     → map (λ (e : Entry). (e.key, value_of e.change)) (visible n es) ≡ shown es n
 
 -- a cursor stands among sorted entries where the visible one of this place is, or at no place
-pub record Sees {C : Type 0} (g : Ghosts C) (n : ℕ) (c : C) (es : List Entry) (place : Option ℕ) : Type 0 where
+pub record Sees {C : Type 0} (g : Ghosts C) (n : ℕ) (c : C) (es : List Entry)
+    (place : Option ℕ) : Type 0 where
   pub at : Option ℕ
   pub stands : g.stands c es at
   pub same : entry_at (visible n es) place ≡ entry_at es at

@@ -63,14 +63,16 @@ all_pass : (es : List Entry) → passed (λ x. true) es ≡ length es
 all_pass [] = refl
 all_pass (e ∷ es) = ap suc (all_pass es)
 
-pub last_there : (es : List Entry) (n : ℕ) → n ≤ length es → length es ≤ n → last_place es ≡ previous_place (Some n)
+pub last_there : (es : List Entry) (n : ℕ) → n ≤ length es → length es ≤ n
+    → last_place es ≡ previous_place (Some n)
 last_there [] zero h g = refl
 last_there [] (suc n) h g = absurd (omega (arith, h))
 last_there (e ∷ es) zero h g = absurd (omega (arith, g))
 last_there (e ∷ es) (suc n) h g =
     let same : length (e ∷ es) - 1 ≡ n = omega (arith, h, g) in
     let lt : n < length (e ∷ es) = omega (arith, g) in
-    ap (place_in (e ∷ es)) same ∙ ap (λ b. if b then Some n else None) (lt-ltb n (length (e ∷ es)) lt)
+    ap (place_in (e ∷ es)) same
+    ∙ ap (λ b. if b then Some n else None) (lt-ltb n (length (e ∷ es)) lt)
 
 pub last_cut : (es : List Entry) → last_place es ≡ beside true (λ x. true) es
 last_cut es =
@@ -149,7 +151,8 @@ before_inside es e sorted i =
 
 -- from an entry a step leads over it
 pub step_over : (back : Bool) (es : List Entry) (e : Entry) → AreSorted es → IsIn e es
-    → target (step_in back) es (beside back (side_of back e) es) ≡ beside back (side_of (not back) e) es
+    → target (step_in back) es (beside back (side_of back e) es)
+    ≡ beside back (side_of (not back) e) es
 step_over false es e sorted i =
     ap (λ b. target (step_in false) es (if b then Some (passed (before e) es) else None))
     (lt-ltb (passed (before e) es) (length es) (before_inside es e sorted i))
@@ -256,7 +259,12 @@ module _ {C : Type 0} (g : Ghosts C) (among : Among g) (back : Bool) (inputs : L
       → ((k : ℕ) → meets_first back (head_at (map g.shows inputs) k) (Some e) ≡ false)
       → IsEdge back cut es e
   edge_of_first i e here none =
-      record { among = parts.from i e lt found.among; side = found.side; first = λ x m s. first x m s }
+      record {
+        among = parts.from i e lt found.among;
+        side = found.side;
+        first =
+            λ x m s. first x m s;
+      }
     where
       lt : i < length inputs
       lt = head_inside g inputs i e here
@@ -328,8 +336,10 @@ head_there (Some e) h = (e, refl)
 
 -- the current entry is the first of all on its side
 pub current_edge : {C : Type 0} (g : Ghosts C) → Among g → (m : Merged C) (es : List Entry)
-    (place : Option ℕ) (i : ℕ) → ((k : ℕ) → gives_way m.is_back (map g.shows m.inputs) (Some i) k ≡ true)
-    → (s : Stands g.stands m es place) → (here : IsAtCut m.is_back (length m.inputs) s.part s.at es place)
+    (place : Option ℕ) (i : ℕ)
+    → ((k : ℕ) → gives_way m.is_back (map g.shows m.inputs) (Some i) k ≡ true)
+    → (s : Stands g.stands m es place)
+    → (here : IsAtCut m.is_back (length m.inputs) s.part s.at es place)
     → (e : Entry) × (head_at (map g.shows m.inputs) i ≡ Some e) × IsEdge m.is_back here.cut es e
 current_edge g among m es place i way s here =
     let head = head_there (head_at (map g.shows m.inputs) i)
@@ -338,7 +348,8 @@ current_edge g among m es place i way s here =
       head.1,
       edge_of_first g among m.is_back m.inputs s.part es s.parts here.cut here.falls s.at here.each
           s.each i head.0 head.1
-          (λ k. subst (λ o. meets_first m.is_back (head_at (map g.shows m.inputs) k) o ≡ false) head.1
+          (λ k. subst (λ o. meets_first m.is_back (head_at (map g.shows m.inputs) k) o
+          ≡ false) head.1
           (not-true _ (and_parts (is_some (head_at (map g.shows m.inputs) i)) _ (way k)).1)),
     )
 

@@ -14,7 +14,8 @@ pub record Merged (C : Type 0) : Type 0 where
   pub refused : Option ReadFault
 
 -- each input stands at its place among its own entries
-abbrev pub StandEach : {C : Type 0} → (C → List Entry → Option ℕ → Type 0) → List C → (ℕ → List Entry)
+abbrev pub StandEach : {C : Type 0} → (C → List Entry → Option ℕ → Type 0) → List C
+    → (ℕ → List Entry)
     → (ℕ → Option ℕ) → Type 0
 StandEach {C} stands inputs part at =
     (k : ℕ) (d : C) → k < length inputs → stands (get_or inputs k d) (part k) (at k)

@@ -24,7 +24,8 @@ NeverBack (t ∷ given) = AllByRecursion (λ u. tagged_lt u t ≡ false) given �
 
 -- these entries were given, each with the place of its input, by walks of the inputs that can have gone
 -- over just what came from each; never going back, and what is ahead comes before none of them
-pub record Gave {C : Type 0} (g : Ghosts C) (inputs : List C) (given : List (ℕ × Entry)) : Type 0 where
+pub record Gave {C : Type 0} (g : Ghosts C) (inputs : List C)
+    (given : List (ℕ × Entry)) : Type 0 where
   pub each : (k : ℕ) (d : C) → k < length inputs → g.walks (get_or inputs k d) (from_input k given)
   pub never_back : NeverBack given
   pub ahead : (t : ℕ × Entry) → IsIn t given → (k : ℕ) (h : Entry)
@@ -32,7 +33,8 @@ pub record Gave {C : Type 0} (g : Ghosts C) (inputs : List C) (given : List (ℕ
 
 -- the merge went on and gave these entries, each with the place of its input, and goes on with the first
 -- that is ahead
-pub record WentThrough {C : Type 0} (g : Ghosts C) (m : Merged C) (given : List (ℕ × Entry)) : Type 0 where
+pub record WentThrough {C : Type 0} (g : Ghosts C) (m : Merged C)
+    (given : List (ℕ × Entry)) : Type 0 where
   pub on : m.is_back ≡ false
   pub chosen : IsChosen false (map g.shows m.inputs) m.current
   pub gave : Gave g m.inputs given

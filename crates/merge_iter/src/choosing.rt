@@ -26,7 +26,8 @@ fn meets_before<C: Cursor>(a: &C, b: &C, is_back: bool) -> bool
 fn better<C: Cursor>(inputs: &[C], place: usize, other: usize, is_back: bool) -> usize
     requires place { place < length inputs.now }
     requires other { other < length inputs.now }
-    ensures { result ≡ (if is_better is_back (map C.shows inputs.now) place other then place else other) }
+    ensures { result ≡
+        (if is_better is_back (map C.shows inputs.now) place other then place else other) }
 {
     if is_back {
         if meets_before(&inputs[other], &inputs[place], true) {

@@ -9,6 +9,10 @@ mod laws;
 mod merge;
 mod moving;
 mod step;
+#[cfg(test)]
+mod tests;
+#[cfg(test)]
+mod trial_cursor;
 mod visible;
 
 pub use laws::law_visible;

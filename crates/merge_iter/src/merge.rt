@@ -19,6 +19,7 @@ use peb_base::{Cursor, EntryRef, KeyBuf, Number, ReadFault, is_before};
 /// Going on, each input stands at its first entry that doesn't come before the current one; going back,
 /// at its last that doesn't come behind it. A turn moves each input once. Where inputs have an entry of
 /// one key and number, each gives its own, in the order of the inputs. No call takes memory.
+#[derive(Drop)]
 pub struct Merge<C: Cursor> {
     inputs: Vec<C>,
     /// The place of the input whose entry is shown.
@@ -61,7 +62,8 @@ impl<C: Cursor> Merge<C> {
             → AreParts es (length inputs.items) part
             → StandEach C.stands inputs.items part (λ k. place_from key number (part k))
             → StandsIn C.Cursor (merged_of result) es (place_from key number es) }
-        ensures chosen { IsChosen false (heads_of C.Cursor inputs.items) (merged_of result).current }
+        ensures chosen { IsChosen false (heads_of C.Cursor inputs.items)
+            (merged_of result).current }
         ensures inputs { (merged_of result).inputs ≡ inputs.items }
         ensures direction { (merged_of result).is_back ≡ false }
         ensures refused { (merged_of result).refused ≡ None }
@@ -75,8 +77,7 @@ impl<C: Cursor> Merge<C> {
         }
     }
 
-    /// The place of the input whose entry `at` lends; None exactly at no place. Of inputs with one entry
-    /// it is the first going on, and the last going back.
+    /// The place of the input whose entry `at` lends; None exactly at no place.
     pub fn source(&self) -> Option<usize>
         ensures current { result ≡ (merged_of self.now).current }
         ensures inside { IfSome result (λ place. place < length (merged_of self.now).inputs) }
@@ -105,7 +106,8 @@ impl<C: Cursor> Merge<C> {
         requires { self.old.current ≡ None }
         ensures answer { result ≡ moved }
         ensures inputs { self.new.inputs ≡ self.old.inputs }
-        ensures chosen { OnOk result (IsChosen is_back (map C.shows self.new.inputs.items) self.new.current) }
+        ensures chosen { OnOk result
+            (IsChosen is_back (map C.shows self.new.inputs.items) self.new.current) }
         ensures direction { OnOk result (self.new.is_back ≡ is_back) }
         ensures nothing { OnErr result (self.new.current ≡ None) }
         ensures refused { self.new.refused ≡ refusal result }
@@ -121,7 +123,8 @@ impl<C: Cursor> Merge<C> {
     fn go(&mut self, only: Option<usize>, step: Step, is_back: bool) -> Result<(), ReadFault>
         requires { IfSome only (λ place. place < length self.old.inputs.items) }
         // what it gives
-        ensures landed { Landed C.Cursor (Of (Moved C.Cursor step) only) is_back (merged_of self.old)
+        ensures landed { Landed C.Cursor (Of (Moved C.Cursor step) only) is_back
+            (merged_of self.old)
             (merged_of self.new) result }
         // what it leaves
         ensures nothing { OnErr result (shown_by C.Cursor (merged_of self.new) ≡ None) }
@@ -185,8 +188,10 @@ impl<C: Cursor> Merge<C> {
     fn fall_to(&mut self, key: &[u8], number: u64) -> Result<(), ReadFault>
         requires { self.old.refused ≡ None }
         // what it gives
-        ensures falls { comes_behind key.now number (shown_by C.Cursor (merged_of self.new)) ≡ false }
-        ensures fewer { back_of C.Cursor (merged_of self.new) ≤ back_of C.Cursor (merged_of self.old) }
+        ensures falls { comes_behind key.now number (shown_by C.Cursor (merged_of self.new))
+            ≡ false }
+        ensures fewer { back_of C.Cursor (merged_of self.new)
+            ≤ back_of C.Cursor (merged_of self.old) }
         // what it leaves
         ensures nothing { OnErr result (shown_by C.Cursor (merged_of self.new) ≡ None) }
         ensures refused { self.new.refused ≡ refusal result }
@@ -231,21 +236,26 @@ impl<C: Cursor> Cursor for Merge<C> {
 
     ghost refused = { λ m. (merged_of m).refused };
 
-    ghost among = { λ m es place stands. stands_among C.Cursor.own C.among (merged_of m) es place m.chosen stands };
+    ghost among = { λ m es place stands. stands_among C.Cursor.own C.among
+        (merged_of m) es place m.chosen stands };
 
     ghost within = { λ m e there. shows_within C.Cursor.own C.within (merged_of m) e there };
 
-    ghost ascends = { λ m es e walks there. walk_ascends C.Cursor.own (merged_of m) es e walks there };
+    ghost ascends = { λ m es e walks there. walk_ascends C.Cursor.own
+        (merged_of m) es e walks there };
 
     ghost bounded = { λ m. steps_bounded C.Cursor.own C.bounded (merged_of m) };
 
     ghost kept = { λ m. keeps_self C.Cursor.own C.kept (merged_of m) };
 
-    ghost kept_on = { λ a b c x y. keeps_on C.Cursor.own C.kept_on (merged_of a) (merged_of b) (merged_of c) x y };
+    ghost kept_on = { λ a b c x y. keeps_on C.Cursor.own C.kept_on (merged_of a) (merged_of b)
+        (merged_of c) x y };
 
-    ghost kept_damage = { λ a b number at x. damage_stays C.Cursor.own C.kept_damage (merged_of a) (merged_of b) number at x };
+    ghost kept_damage = { λ a b number at x. damage_stays C.Cursor.own C.kept_damage (merged_of a)
+        (merged_of b) number at x };
 
-    ghost kept_size = { λ a b x. size_stays C.Cursor.own C.kept_size (merged_of a) (merged_of b) x };
+    ghost kept_size = { λ a b x. size_stays C.Cursor.own C.kept_size (merged_of a)
+        (merged_of b) x };
 
     fn seek(&mut self, key: &[u8], number: Number) -> Result<(), ReadFault> {
         self.current = None;

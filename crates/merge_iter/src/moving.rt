@@ -41,7 +41,8 @@ fn go<C: Cursor>(input: &mut C, step: Step) -> Result<(), ReadFault>
 
 /// Makes a step with each cursor, in their order, up to the first that refuses.
 fn send_all<C: Cursor>(inputs: &mut Vec<C>, step: Step) -> Result<(), ReadFault>
-    ensures { AllWent C.Cursor (Each (Moved C.Cursor step)) inputs.old.items inputs.new.items result }
+    ensures { AllWent C.Cursor
+        (Each (Moved C.Cursor step)) inputs.old.items inputs.new.items result }
 {
     for k in 0..inputs.len() {
         go(&mut inputs[k], step)?;
@@ -56,7 +57,8 @@ pub fn send<C: Cursor>(
     step: Step,
 ) -> Result<(), ReadFault>
     requires { IfSome only (λ place. place < length inputs.old.items) }
-    ensures { AllWent C.Cursor (Of (Moved C.Cursor step) only) inputs.old.items inputs.new.items result }
+    ensures { AllWent C.Cursor
+        (Of (Moved C.Cursor step) only) inputs.old.items inputs.new.items result }
 {
     let Some(place) = only else {
         return send_all(inputs, step);
@@ -73,7 +75,8 @@ fn seek_with<C: Cursor>(input: &mut C, key: &[u8], number: Number) -> Result<(),
 
 /// Seeks a key and number with each cursor, in their order, up to the first that refuses.
 pub fn seek_all<C: Cursor>(inputs: &mut Vec<C>, key: &[u8], number: Number) -> Result<(), ReadFault>
-    ensures { AllWent C.Cursor (Each (Sought C.Cursor key.now number)) inputs.old.items inputs.new.items
+    ensures { AllWent C.Cursor
+        (Each (Sought C.Cursor key.now number)) inputs.old.items inputs.new.items
         result }
 {
     for k in 0..inputs.len() {

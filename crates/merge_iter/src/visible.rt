@@ -13,6 +13,7 @@ use peb_base::{ChangeRef, Cursor, EntryRef, KeyBuf, Number, ReadFault};
 /// that is a deletion.
 ///
 /// A call that answers a `ReadFault` leaves it at no place. No call takes memory.
+#[derive(Drop)]
 pub struct Visible<C: Cursor> {
     inner: C,
     number: Number,
@@ -86,7 +87,9 @@ impl<C: Cursor> Visible<C> {
     /// Lends the entry at its place, a put at or below the number; None at no place.
     pub fn at(&self) -> Option<EntryRef<'_>>
         ensures lent { option_map entry_of result ≡ seen_by C.Cursor self.now }
-        ensures put { IfSome result (λ e. (puts (entry_of e).change ≡ true) × ((entry_of e).number ≤ number_of_view self.now)) }
+        ensures put { IfSome result
+            (λ e. (puts (entry_of e).change ≡ true)
+            × ((entry_of e).number ≤ number_of_view self.now)) }
     {
         let Some(entry) = self.inner.at() else {
             return None;
@@ -109,7 +112,8 @@ impl<C: Cursor> Visible<C> {
 
     /// Keeps the key of the cursor's entry.
     fn keep_key(&mut self)
-        ensures { self.new ≡ record self.old { key = key_of self.old.key (C.shows self.old.inner) } }
+        ensures { self.new
+            ≡ record self.old { key = key_of self.old.key (C.shows self.old.inner) } }
     {
         let Some(entry) = self.inner.at() else {
             return;
@@ -119,7 +123,11 @@ impl<C: Cursor> Visible<C> {
 
     /// Keeps the key of the cursor's entry, unless the entry is newer than the number.
     fn keep_passed(&mut self)
-        ensures { self.new ≡ record self.old { key = key_after self.old.number self.old.key (C.shows self.old.inner) } }
+        ensures { self.new
+            ≡ record self.old {
+              key =
+                  key_after self.old.number self.old.key (C.shows self.old.inner);
+            } }
     {
         let Some(entry) = self.inner.at() else {
             return;
@@ -135,7 +143,8 @@ impl<C: Cursor> Visible<C> {
         // what it gives
         ensures goes { (es : List Entry) (at : Option ℕ) (p : ℕ) → C.stands self.old.inner es at
             → IsAhead self.old.number self.old.key es at p
-            → LeadsTo (SeesIn C.Cursor self.new es) (place_in (visible self.old.number es) p) result }
+            → LeadsTo (SeesIn C.Cursor self.new es)
+            (place_in (visible self.old.number es) p) result }
         // what it leaves
         ensures nothing { OnErr result (C.shows self.new.inner ≡ None) }
         // when it fails
@@ -158,11 +167,13 @@ impl<C: Cursor> Visible<C> {
         // what it gives
         ensures goes { (es : List Entry) (place : Option ℕ) → SeesIn C.Cursor self.old es place
             → LeadsTo (SeesIn C.Cursor self.new es)
-            (place_from key.now (number_of_view self.old) (visible (number_of_view self.old) es)) result }
+            (place_from key.now (number_of_view self.old)
+            (visible (number_of_view self.old) es)) result }
         // what it leaves
         ensures nothing { OnErr result (seen_by C.Cursor self.new ≡ None) }
         // when it fails
-        ensures counts { CountsFaults (C.faults (inner_of self.old)) (C.faults (inner_of self.new)) result }
+        ensures counts { CountsFaults (C.faults (inner_of self.old))
+            (C.faults (inner_of self.new)) result }
         ensures damage { IfDamage result (C.damaged (inner_of self.new)) }
         // what stays
         ensures number { number_of_view self.new ≡ number_of_view self.old }
@@ -177,11 +188,13 @@ impl<C: Cursor> Visible<C> {
     pub fn first(&mut self) -> Result<(), ReadFault>
         // what it gives
         ensures goes { (es : List Entry) (place : Option ℕ) → SeesIn C.Cursor self.old es place
-            → LeadsTo (SeesIn C.Cursor self.new es) (first_place (visible (number_of_view self.old) es)) result }
+            → LeadsTo (SeesIn C.Cursor self.new es)
+            (first_place (visible (number_of_view self.old) es)) result }
         // what it leaves
         ensures nothing { OnErr result (seen_by C.Cursor self.new ≡ None) }
         // when it fails
-        ensures counts { CountsFaults (C.faults (inner_of self.old)) (C.faults (inner_of self.new)) result }
+        ensures counts { CountsFaults (C.faults (inner_of self.old))
+            (C.faults (inner_of self.new)) result }
         ensures damage { IfDamage result (C.damaged (inner_of self.new)) }
         // what stays
         ensures number { number_of_view self.new ≡ number_of_view self.old }
@@ -201,7 +214,8 @@ impl<C: Cursor> Visible<C> {
         // what it leaves
         ensures nothing { OnErr result (seen_by C.Cursor self.new ≡ None) }
         // when it fails
-        ensures counts { CountsFaults (C.faults (inner_of self.old)) (C.faults (inner_of self.new)) result }
+        ensures counts { CountsFaults (C.faults (inner_of self.old))
+            (C.faults (inner_of self.new)) result }
         ensures damage { IfDamage result (C.damaged (inner_of self.new)) }
         // what stays
         ensures number { number_of_view self.new ≡ number_of_view self.old }
@@ -263,7 +277,8 @@ impl<C: Cursor> Visible<C> {
     /// Goes back to the last visible entry at or before where it stands, or to no place.
     fn settle_back(&mut self) -> Result<(), ReadFault>
         // what it gives
-        ensures goes { (es : List Entry) (r : ℕ) → C.stands self.old.inner es (previous_place (Some r))
+        ensures goes { (es : List Entry) (r : ℕ)
+            → C.stands self.old.inner es (previous_place (Some r))
             → LeadsTo (SeesIn C.Cursor self.new es)
             (previous_place (Some (length (seen self.old.number [] (take r es))))) result }
         // what it leaves
@@ -288,11 +303,13 @@ impl<C: Cursor> Visible<C> {
     pub fn last(&mut self) -> Result<(), ReadFault>
         // what it gives
         ensures goes { (es : List Entry) (place : Option ℕ) → SeesIn C.Cursor self.old es place
-            → LeadsTo (SeesIn C.Cursor self.new es) (last_place (visible (number_of_view self.old) es)) result }
+            → LeadsTo (SeesIn C.Cursor self.new es)
+            (last_place (visible (number_of_view self.old) es)) result }
         // what it leaves
         ensures nothing { OnErr result (seen_by C.Cursor self.new ≡ None) }
         // when it fails
-        ensures counts { CountsFaults (C.faults (inner_of self.old)) (C.faults (inner_of self.new)) result }
+        ensures counts { CountsFaults (C.faults (inner_of self.old))
+            (C.faults (inner_of self.new)) result }
         ensures damage { IfDamage result (C.damaged (inner_of self.new)) }
         // what stays
         ensures number { number_of_view self.new ≡ number_of_view self.old }
@@ -310,7 +327,8 @@ impl<C: Cursor> Visible<C> {
         // what it leaves
         ensures nothing { OnErr result (seen_by C.Cursor self.new ≡ None) }
         // when it fails
-        ensures counts { CountsFaults (C.faults (inner_of self.old)) (C.faults (inner_of self.new)) result }
+        ensures counts { CountsFaults (C.faults (inner_of self.old))
+            (C.faults (inner_of self.new)) result }
         ensures damage { IfDamage result (C.damaged (inner_of self.new)) }
         // what stays
         ensures number { number_of_view self.new ≡ number_of_view self.old }
