@@ -9,7 +9,7 @@ use Rattle.peb_base.specs.Entries.{AscendFrom, entry_lt}
 use Rattle.peb_base.specs.EntryLaws.{entry_asym}
 use Rattle.peb_base.specs.declared.cursor.Cursor.{Ghosts}
 use Rattle.peb_base.specs.declared.entry.Entry.{Entry}
-use Rattle.merge_iter.specs.CutLaws.{got}
+use Rattle.merge_iter.specs.CutLaws.{some_is, got}
 use Rattle.merge_iter.specs.Heads.{comes_behind}
 use Rattle.merge_iter.specs.Parts.{AreParts}
 use Rattle.merge_iter.specs.StandLaws.{Among, stands_at}
@@ -33,9 +33,6 @@ step_down key number (x ∷ []) zero e f h there before = cc
 step_down key number (x ∷ y ∷ es) zero e f h there before =
     subst (λ (z : Entry). entry_lt z e ≡ true) (some_is x f before)
     (subst (λ (z : Entry). entry_lt x z ≡ true) (some_is y e there) h.2.1)
-  where
-    some_is : (a b : Entry) → Some a ≡ Some b → a ≡ b
-    some_is a b same = cc
 step_down key number (x ∷ es) (suc n) e f h there before =
     step_down x.key x.number es n e f h.2 there before
 

@@ -1,7 +1,7 @@
 -- The first of the entries at which cursors stand, found one after another.
 use Rattle.std.proofs.Common.{◌≡◌, ℕ, ◌+◌, ◌<◌, ◌≤◌, ◌⊎◌, inl, inr, Bool, true, false, not, List, Option, Some, None, refl, sym, ap, ◌∙◌, subst, arith, length, map}
 use Rattle.std.specs.Prelude.{if◌then◌else◌, is_some, nat_lt, IfSome}
-use Rattle.std.proofs.lemmas.Bool.{true≢false, false≢true, false_from_ne_true, cases_lt, ltb-true, and_from, and_parts}
+use Rattle.std.proofs.lemmas.Bool.{true≢false, false≢true, false_from_ne_true, cases_lt, ltb-true, and_parts}
 use Rattle.std.proofs.lemmas.Bool.Decides.{nat_tests}
 use Rattle.peb_base.specs.declared.cursor.Cursor.{Ghosts}
 use Rattle.peb_base.specs.declared.entry.Entry.{Entry}
@@ -52,9 +52,6 @@ best_none back heads = record {
 }
 
 module _ (back : Bool) (heads : List (Option Entry)) (i best : ℕ) (b : Best back heads i best) where
-  H : ℕ → Option Entry
-  H k = head_at heads k
-
   -- the next one isn't met after the best
   takes_over : ((k : ℕ) → k < i → meets_first back (head_at heads k) (head_at heads i) ≡ false)
       → ((k : ℕ) → k < i → takes back k i ≡ true
@@ -186,14 +183,6 @@ module _ {C : Type 0} (g : Ghosts C) (back : Bool) (inputs : List C) (best : ℕ
       tie k t (inl lt) =
           subst (λ h. meets_first back h (head_at (map g.shows inputs) k) ≡ true) some (b.taken k lt t)
       tie k t (inr le) = ap (λ h. meets_first back (Some e) h) (head_past g inputs k le)
-
--- the others give way to the first
-pub all_give_way : (back : Bool) (heads : List (Option Entry)) (current : Option ℕ)
-    → IsChosen back heads current → (k : ℕ) → gives_way back heads current k ≡ true
-all_give_way back heads None chosen k = refl
-all_give_way back heads (Some i) chosen k =
-    and_from (is_some (head_at heads i)) _ (ap is_some chosen.1.at)
-    (ap not (ap (λ h. meets_first back (head_at heads k) h) chosen.1.at ∙ chosen.1.none_before k))
 
 -- the current one is one of them, and has an entry
 pub current_shows : {C : Type 0} (g : Ghosts C) (inputs : List C) (back : Bool) (i : ℕ)

@@ -11,7 +11,7 @@ use Rattle.peb_base.specs.Members.{IsIn}
 use Rattle.peb_base.specs.Sorting.{behind_first}
 use Rattle.peb_base.specs.declared.cursor.Cursor.{Ghosts}
 use Rattle.peb_base.specs.declared.entry.Entry.{Entry}
-use Rattle.merge_iter.specs.CutLaws.{in_at, got, get_inside, place_there, none_in_list}
+use Rattle.merge_iter.specs.CutLaws.{some_is, in_at, got, get_inside, place_there, none_in_list}
 use Rattle.merge_iter.specs.Seeing.{puts, is_passed, is_hidden, key_after, seen, visible, rest, IsAhead, Sees}
 use Rattle.merge_iter.specs.StandLaws.{Among}
 
@@ -168,9 +168,6 @@ seen_in n key (y ∷ es) x i =
 
 pub never_behind : (e : Entry) (es : List Entry) → AscendFrom e.key e.number es → IsIn e es → ⊥
 never_behind e es h i = true≢false (sym (behind_first e e es h i) ∙ entry_irrefl e)
-
-some_is : (a b : Entry) → Some a ≡ Some b → a ≡ b
-some_is a b same = cc
 
 -- behind a visible entry lie the visible ones behind it
 pub behind_seen : (n : ℕ) (from : Bytes) (number : ℕ) (key : Bytes) (es : List Entry) (q p : ℕ) (e : Entry)

@@ -9,12 +9,9 @@ use Rattle.peb_base.specs.Entries.{AreSorted, AscendFrom, entry_lt}
 use Rattle.peb_base.specs.Members.{IsIn}
 use Rattle.peb_base.specs.Sorting.{behind_first}
 use Rattle.peb_base.specs.declared.entry.Entry.{Entry}
-use Rattle.merge_iter.specs.CutLaws.{in_at}
+use Rattle.merge_iter.specs.CutLaws.{some_is, in_at}
 use Rattle.merge_iter.specs.Seeing.{puts, is_passed, is_found, seen}
 use Rattle.merge_iter.proofs.Going.{seen_passed, seen_deleted, seen_put, seen_in, never_behind}
-
-some_is : (a b : Entry) → Some a ≡ Some b → a ≡ b
-some_is a b same = cc
 
 -- ---- fronts
 

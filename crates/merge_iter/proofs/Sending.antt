@@ -1,11 +1,11 @@
 -- Inputs moved one after another.
-use Rattle.std.proofs.Common.{◌≡◌, ◌≢◌, ℕ, ◌+◌, ◌<◌, ◌≤◌, inl, inr, List, Result, Ok, Err, length, refl, sym, ◌∙◌, subst, arith}
+use Rattle.std.proofs.Common.{◌≡◌, ℕ, ◌<◌, ◌≤◌, inl, inr, List, Result, Ok, Err, length, refl, sym, ◌∙◌, subst, arith}
 use Rattle.std.specs.Prelude.{get_or, set}
 use Rattle.std.proofs.lemmas.Bool.{cases_lt, cases_eq}
 use Rattle.std.proofs.lemmas.List.{get_or-set_same, get_or-set_other, length-set}
 use Rattle.peb_base.specs.declared.cursor.Cursor.{Ghosts}
 use Rattle.peb_base.specs.declared.read_fault.ReadFault.{ReadFault}
-use Rattle.merge_iter.specs.Moves.{Remains, Moved, Failed, Went, Each, OnlyAt, OneFailed, AllWent}
+use Rattle.merge_iter.specs.Moves.{Remains, Moved, Failed, Went, OnlyAt, OneFailed, AllWent}
 use Rattle.merge_iter.specs.declared.step.Step.{Step}
 
 -- so many first ones were moved, the others are as they were
@@ -13,38 +13,6 @@ pub record Begun {C : Type 0} (R : C → C → Type 0) (old new : List C) (count
   pub same : length new ≡ length old
   pub done : (k : ℕ) (d : C) → k < count → R (get_or old k d) (get_or new k d)
   pub later : (k : ℕ) (d : C) → count ≤ k → get_or new k d ≡ get_or old k d
-
-pub begun_none : {C : Type 0} (R : C → C → Type 0) (old : List C) → Begun R old old 0
-begun_none R old = record {
-  same = refl;
-  done = λ k d lt. absurd (omega (arith, lt));
-  later = λ k d le. refl;
-}
-
-pub begun_more : {C : Type 0} (R : C → C → Type 0) (old new : List C) (i : ℕ) (c : C) → i < length new
-    → Begun R old new i → ((d : C) → R (get_or new i d) c) → Begun R old (set new i c) (i + 1)
-begun_more R old new i c inside b r = record {
-  same = length-set new i c ∙ b.same;
-  done = λ k d lt. elim (cases_eq k i) [
-    | inl is ↦
-        subst (λ n. R (get_or old n d) (get_or (set new i c) n d)) (sym is)
-        (subst (λ x. R x (get_or (set new i c) i d)) (b.later i d (omega arith))
-        (subst (R (get_or new i d)) (sym (get_or-set_same new i c d inside)) (r d)))
-    | inr other ↦
-        subst (R (get_or old k d)) (sym (get_or-set_other new i k c d other))
-        (b.done k d (omega (arith, lt, other)))
-  ];
-  later = λ k d le.
-      let other : k ≢ i = λ is. absurd (omega (arith, le, is)) in
-      get_or-set_other new i k c d other ∙ b.later k d (omega (arith, le));
-}
-
-pub begun_all : {C : Type 0} (R : C → C → Type 0) (old new : List C) (count : ℕ) → length new ≤ count
-    → Begun R old new count → Each R old new
-begun_all R old new count end b = record {
-  same = b.same;
-  each = λ k d lt. let same = b.same in b.done k d (omega (arith, lt, end, same));
-}
 
 -- one refused: those before it were moved, those behind it are as they were
 pub begun_failed : {C : Type 0} (g : Ghosts C) → ((c : C) → g.keeps c c) → (R : C → C → Type 0)

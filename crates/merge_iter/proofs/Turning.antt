@@ -1,7 +1,8 @@
 -- A view that goes back, and turns to what it found.
 use Rattle.std.proofs.Common.{◌≡◌, ℕ, zero, suc, ◌<◌, ◌≤◌, Bool, true, false, not, ◌&&◌, ◌||◌, List, [], ◌∷◌, ◌++◌, Option, Some, None, length, drop, take, refl, sym, ap, ◌∙◌, subst, arith}
 use Rattle.std.specs.Prelude.{slice_get, nat_lt, IfSome}
-use Rattle.std.proofs.lemmas.Bool.{true≢false, false≢true, and_parts, not-true}
+use Rattle.std.proofs.lemmas.List.{append_assoc, length-append, take_all}
+use Rattle.std.proofs.lemmas.Bool.{false≢true, and_parts, not-true}
 use Rattle.peb_base.specs.Keys.{Bytes, key_eq}
 use Rattle.peb_base.specs.KeyLaws.{same_key}
 use Rattle.peb_base.specs.Cursors.{place_in, entry_at, last_place, previous_place, StandsAmong}
@@ -97,34 +98,9 @@ went_back {C} g among kept_on old l k n was now w found is looks =
 
 -- ---- the turn
 
--- without a put no place is left
-pub turn_none : {C : Type 0} (g : Ghosts C) → Among g → (n : ℕ) (key : Bytes) (c : C) (es : List Entry)
-    (r : ℕ) (left : List Entry) → g.stands c es (previous_place (Some r)) → IsBack n key es r left false
-    → looks_back n key false (g.shows c) ≡ false → Sees g n c es (previous_place (Some (length left)))
-turn_none g among n key c es r left s back stop =
-    by r s back (among c es (previous_place (Some r)) s)
-  where
-    by : (r : ℕ) → g.stands c es (previous_place (Some r)) → IsBack n key es r left false
-        → StandsAmong es (previous_place (Some r)) (g.shows c)
-        → Sees g n c es (previous_place (Some (length left)))
-    by zero s back st =
-        subst (λ vs. Sees g n c es (previous_place (Some (length vs)))) back
-        (record { at = None; stands = s; same = refl; inside = tt })
-    by (suc m) s back st =
-        let there = got es m st.inside in
-        absurd (true≢false (ap (looks_back n key false) (sym (st.shows ∙ there.1)) ∙ stop))
-
 get_at : (xs : List Entry) (x : Entry) (ys : List Entry) → slice_get (xs ++ x ∷ ys) (length xs) ≡ Some x
 get_at [] x ys = refl
 get_at (y ∷ xs) x ys = get_at xs x ys
-
-joined : (xs : List Entry) (x : Entry) (ys : List Entry) → (xs ++ x ∷ []) ++ ys ≡ xs ++ x ∷ ys
-joined [] x ys = refl
-joined (y ∷ xs) x ys = ap (λ zs. y ∷ zs) (joined xs x ys)
-
-longer : (xs : List Entry) (x : Entry) → length (xs ++ x ∷ []) ≡ suc (length xs)
-longer [] x = refl
-longer (y ∷ xs) x = ap suc (longer xs x)
 
 -- where the put is that was found, and what lies ahead of it
 pub turn_found : {C : Type 0} (g : Ghosts C) → Among g → (n : ℕ) (key : Bytes) (c : C) (es : List Entry)
@@ -168,7 +144,7 @@ turn_found g among n key c es r left s back stop = (p, ahead, place)
     visible_is =
         (front_seen n [] es (suc r)).1
         ∙ ap (λ vs. vs ++ (front_seen n [] es (suc r)).0) (back.4 ∙ left_is)
-        ∙ joined front e (front_seen n [] es (suc r)).0
+        ∙ append_assoc front (e ∷ []) (front_seen n [] es (suc r)).0
 
     there : slice_get (visible n es) p ≡ Some e
     there = ap (λ vs. slice_get vs p) visible_is ∙ get_at front e (front_seen n [] es (suc r)).0
@@ -183,9 +159,12 @@ turn_found g among n key c es r left s back stop = (p, ahead, place)
         ∙ ap (λ vs. e ∷ vs) (behind_seen n [] 0 [] es r p e st.sorted back.1 there)
         ∙ sym (drop_get (visible n es) p e there)
 
+    one_longer : length (front ++ e ∷ []) ≡ suc p
+    one_longer = let more = length-append front (e ∷ []) in omega (arith, more)
+
     place : place_in (visible n es) p ≡ previous_place (Some (length left))
     place = place_there (visible n es) p e there
-        ∙ sym (ap (λ k. previous_place (Some k)) (ap length left_is ∙ longer front e))
+        ∙ sym (ap (λ k. previous_place (Some k)) (ap length left_is ∙ one_longer))
 
 pub one_on : (es : List Entry) (r : ℕ) → target Next es (previous_place (Some r)) ≡ place_in es r
 one_on es zero = refl
@@ -193,17 +172,13 @@ one_on es (suc r) = refl
 
 -- ---- where walks back begin
 
-take_whole : (es : List Entry) → take (length es) es ≡ es
-take_whole [] = refl
-take_whole (e ∷ es) = ap (λ fs. e ∷ fs) (take_whole es)
-
 pub last_is : (es : List Entry) → last_place es ≡ previous_place (Some (length es))
 last_is es = last_there es (length es) (omega arith) (omega arith)
 
 pub last_back : (n : ℕ) (es : List Entry)
     → previous_place (Some (length (seen n [] (take (length es) es)))) ≡ last_place (visible n es)
 last_back n es =
-    ap (λ xs. previous_place (Some (length (seen n [] xs)))) (take_whole es) ∙ sym (last_is (visible n es))
+    ap (λ xs. previous_place (Some (length (seen n [] xs)))) (take_all (length es) es (omega arith)) ∙ sym (last_is (visible n es))
 
 -- from a visible entry, or from no place
 pub prev_back : {C : Type 0} (g : Ghosts C) → Among g → (n : ℕ) (c : C) (es : List Entry)

@@ -3,6 +3,8 @@ use Rattle.std.proofs.Common.{◌≡◌, ◌≢◌, ℕ, ◌<◌, ◌≤◌, ◌
 use Rattle.std.specs.Prelude.{get_or, nat_lt, nat_eq, if◌then◌else◌}
 use Rattle.std.specs.List.{AllByRecursion}
 use Rattle.std.proofs.lemmas.Bool.{true≢false, false_from_ne_true, or_parts, cases_lt, cases_eq}
+use Rattle.std.proofs.lemmas.Grind.{flat_map-append}
+use Rattle.std.proofs.lemmas.List.{map-append, append-nil}
 use Rattle.std.proofs.lemmas.Bool.Decides.{nat_tests}
 use Rattle.peb_base.specs.Cursors.{ComesBeforeNone}
 use Rattle.peb_base.specs.Entries.{entry_lt}
@@ -10,9 +12,10 @@ use Rattle.peb_base.specs.EntryLaws.{entry_split}
 use Rattle.peb_base.specs.Members.{IsIn}
 use Rattle.peb_base.specs.declared.cursor.Cursor.{Ghosts}
 use Rattle.peb_base.specs.declared.entry.Entry.{Entry}
+use Rattle.merge_iter.specs.CutLaws.{some_is}
 use Rattle.merge_iter.specs.Heads.{head_at, meets_first, takes, IsChosen, IsFirst}
 use Rattle.merge_iter.specs.Moves.{Moved, Each, OnlyAt}
-use Rattle.merge_iter.specs.StandLaws.{head_is, head_inside}
+use Rattle.merge_iter.specs.StandLaws.{some_of, head_is, head_inside}
 use Rattle.merge_iter.specs.Standing.{Merged}
 use Rattle.merge_iter.specs.Walking.{tagged_lt, from_input, NeverBack, WentOver, WentThrough}
 use Rattle.merge_iter.specs.declared.step.Step.TheVariants.{First, Next}
@@ -38,29 +41,13 @@ all_push P (x ∷ xs) y h p = (h.0, all_push P xs y h.1 p)
 
 entries_push : (given : List (ℕ × Entry)) (t : ℕ × Entry)
     → map (λ (u : ℕ × Entry). u.1) (given ++ t ∷ []) ≡ map (λ (u : ℕ × Entry). u.1) given ++ t.1 ∷ []
-entries_push [] t = refl
-entries_push (u ∷ given) t = ap (λ es. u.1 ∷ es) (entries_push given t)
+entries_push given t = map-append (λ (u : ℕ × Entry). u.1) given (t ∷ [])
 
 from_push : (k : ℕ) (given : List (ℕ × Entry)) (t : ℕ × Entry)
     → from_input k (given ++ t ∷ []) ≡ from_input k given ++ (if nat_eq t.0 k then t.1 ∷ [] else [])
-from_push k [] t = by (nat_eq t.0 k)
-  where
-    by : (b : Bool) → (if b then t.1 ∷ [] else []) ++ [] ≡ (if b then t.1 ∷ [] else [])
-    by true = refl
-    by false = refl
-from_push k (u ∷ given) t = by (nat_eq u.0 k) (from_push k given t)
-  where
-    by : (b : Bool)
-        → from_input k (given ++ t ∷ []) ≡ from_input k given ++ (if nat_eq t.0 k then t.1 ∷ [] else [])
-        → (if b then u.1 ∷ [] else []) ++ from_input k (given ++ t ∷ [])
-        ≡ ((if b then u.1 ∷ [] else []) ++ from_input k given)
-        ++ (if nat_eq t.0 k then t.1 ∷ [] else [])
-    by true ih = ap (λ es. u.1 ∷ es) ih
-    by false ih = ih
-
-no_more : (es : List Entry) → es ++ [] ≡ es
-no_more [] = refl
-no_more (e ∷ es) = ap (λ fs. e ∷ fs) (no_more es)
+from_push k given t =
+    flat_map-append (λ (u : ℕ × Entry). if nat_eq u.0 k then u.1 ∷ [] else []) given (t ∷ [])
+    ∙ ap (λ es. from_input k given ++ es) (append-nil (if nat_eq t.0 k then t.1 ∷ [] else []))
 
 never_back_push : (given : List (ℕ × Entry)) (t : ℕ × Entry) → NeverBack given
     → ((u : ℕ × Entry) → IsIn u given → tagged_lt t u ≡ false) → NeverBack (given ++ t ∷ [])
@@ -146,9 +133,6 @@ module _ {C : Type 0} (g : Ghosts C) (law : Ascends g) (old new : Merged C)
     where
       at : IsChosen false (map g.shows old.inputs) (Some i) → IsFirst false (map g.shows old.inputs) i e
       at c = subst (IsFirst false (map g.shows old.inputs) i) (some_is c.0 e (sym c.1.at ∙ here)) c.1
-        where
-          some_is : (a b : Entry) → Some a ≡ Some b → a ≡ b
-          some_is a b same = cc
 
   same_head : (k : ℕ) → k ≢ i → (h : Entry) → head_at (map g.shows new.inputs) k ≡ Some h
       → head_at (map g.shows old.inputs) k ≡ Some h
@@ -156,13 +140,9 @@ module _ {C : Type 0} (g : Ghosts C) (law : Ascends g) (old new : Merged C)
       let lt = head_inside g new.inputs k h there in
       let long = m.same in
       let old_lt : k < length old.inputs = omega (arith, lt, long) in
-      let d = some_here old.inputs k old_lt in
+      let d = some_of old.inputs k old_lt in
       head_is g old.inputs k d old_lt ∙ ap g.shows (sym (m.others k d other))
       ∙ sym (head_is g new.inputs k d lt) ∙ there
-    where
-      some_here : (cs : List C) (k : ℕ) → k < length cs → C
-      some_here [] k lt = absurd (omega (arith, lt))
-      some_here (c ∷ cs) k lt = c
 
   -- e is the first of what is ahead
   least_is : (k : ℕ) (h : Entry) → head_at (map g.shows old.inputs) k ≡ Some h
@@ -198,15 +178,11 @@ module _ {C : Type 0} (g : Ghosts C) (law : Ascends g) (old new : Merged C)
       → head_at (map g.shows new.inputs) i ≡ Some h → tagged_lt (i, h) t ≡ false
   ahead_here t j h is =
       let lt = head_inside g new.inputs i h is in
-      let d = some_new new.inputs i lt in
+      let d = some_of new.inputs i lt in
       let behind = law (get_or new.inputs i d) (from_input i given ++ e ∷ []) h (walks_here d)
       (sym (head_is g new.inputs i d lt) ∙ is) in
       no_step_back i h e t.0 t.1 (all_last (λ f. entry_lt h f ≡ false) (from_input i given) e behind)
       (ahead_old t j i e here)
-    where
-      some_new : (cs : List C) (k : ℕ) → k < length cs → C
-      some_new [] k lt = absurd (omega (arith, lt))
-      some_new (c ∷ cs) k lt = c
 
   ahead_new : (t : ℕ × Entry) → IsIn t given_on → (k : ℕ) (h : Entry)
       → head_at (map g.shows new.inputs) k ≡ Some h → tagged_lt (k, h) t ≡ false
@@ -235,7 +211,7 @@ module _ {C : Type 0} (g : Ghosts C) (law : Ascends g) (old new : Merged C)
           let long = m.same in
           subst (λ b. g.walks (get_or new.inputs k d) (from_input k given ++ (if b then e ∷ [] else [])))
           (sym test)
-          (subst (g.walks (get_or new.inputs k d)) (sym (no_more (from_input k given)))
+          (subst (g.walks (get_or new.inputs k d)) (sym (append-nil (from_input k given)))
           (subst (λ c. g.walks c (from_input k given)) (sym (m.others k d other))
           (w.gave.each k d (omega (arith, lt, long)))))
 

@@ -5,14 +5,14 @@ use Rattle.std.proofs.lemmas.Bool.{true≢false, false_from_ne_true, ltb-true, l
 use Rattle.peb_base.specs.Keys.{Bytes}
 use Rattle.peb_base.specs.Cursors.{place_in, entry_at, previous_place}
 use Rattle.peb_base.specs.Entries.{AreSorted, AscendFrom, entry_lt}
-use Rattle.peb_base.specs.EntryLaws.{entry_split, entry_asym, entry_irrefl, entry_trans}
+use Rattle.peb_base.specs.EntryLaws.{entry_split, entry_asym, entry_irrefl}
 use Rattle.peb_base.specs.Members.{IsIn}
 use Rattle.peb_base.specs.Sorting.{behind_first}
 use Rattle.peb_base.specs.declared.entry.Entry.{Entry}
 use Rattle.merge_iter.specs.Cuts.{passed, beside, Falls}
 use Rattle.merge_iter.specs.Heads.{meets}
 
-some_is : (a b : Entry) → Some a ≡ Some b → a ≡ b
+pub some_is : (a b : Entry) → Some a ≡ Some b → a ≡ b
 some_is a b same = cc
 
 -- of the entries on the side to which a walk goes this is the first
@@ -30,14 +30,6 @@ meets_irrefl true a = entry_irrefl a
 pub meets_asym : (back : Bool) (a b : Entry) → meets back a b ≡ true → meets back b a ≡ false
 meets_asym false a b h = entry_asym a b h
 meets_asym true a b h = entry_asym b a h
-
-pub meets_trans : (back : Bool) (a b c : Entry) → meets back a b ≡ true → meets back b c ≡ true
-    → meets back a c ≡ true
-meets_trans false a b c h g = entry_trans a b c h g
-meets_trans true a b c h g = entry_trans c b a g h
-
-by_false : (b : Bool) → (b ≡ true → ⊥) → b ≡ false
-by_false b h = false_from_ne_true b h
 
 -- what a walk meets before c it meets before b, or b before c
 pub meets_split : (back : Bool) (a b c : Entry) → meets back a c ≡ true → meets back a b ≡ false

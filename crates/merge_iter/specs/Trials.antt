@@ -6,7 +6,7 @@ use Rattle.peb_base.specs.Cursors.{ComesBeforeNone}
 use Rattle.peb_base.specs.Entries.{IsEntry, entry_lt, value_of, comes_before}
 use Rattle.peb_base.specs.Keys.{Bytes}
 use Rattle.peb_base.specs.declared.entry.Entry.{Entry}
-use Rattle.merge_iter.specs.CutLaws.{not_met}
+use Rattle.merge_iter.specs.CutLaws.{some_is, not_met}
 
 -- the entry is within its limits
 abbrev pub fits : Entry → Bool
@@ -61,10 +61,7 @@ checked_fits (Some x) e h = by (fits x) refl
     by : (b : Bool) → fits x ≡ b → IsEntry e
     by true t =
         let same : Some x ≡ Some e = sym (ap (λ b. if b then Some x else None) t) ∙ h in
-        subst IsEntry (is x e same) (record_of t)
-      where
-        is : (a b : Entry) → Some a ≡ Some b → a ≡ b
-        is a b s = cc
+        subst IsEntry (some_is x e same) (record_of t)
     by false t = cc (sym (ap (λ b. if b then Some x else None) t) ∙ h)
 
 -- what doesn't come before an entry comes before none of those that it doesn't
