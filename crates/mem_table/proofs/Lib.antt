@@ -1,0 +1,4 @@
+pub mod ChunkLemmas
+pub mod CursorLemmas
+pub mod InsertLemmas
+pub mod PutLemmas
