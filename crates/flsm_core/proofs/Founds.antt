@@ -1,6 +1,7 @@
 -- What an opening finds, one log after another.
-use Rattle.std.proofs.Common.{◌≡◌, ℕ, suc, ◌+◌, max, true, List, [], ◌∷◌, ◌++◌, map, length, Option, Some, refl, sym, ap, ◌∙◌, subst, arith, append_assoc, length-append, inl, inr}
+use Rattle.std.proofs.Common.{◌≡◌, ℕ, suc, ◌+◌, ◌<◌, ◌≤◌, max, true, List, [], ◌∷◌, ◌++◌, map, length, Option, Some, refl, sym, ap, ◌∙◌, subst, arith, append_assoc, length-append, inl, inr}
 use Rattle.std.specs.List.{AllByRecursion}
+use Rattle.std.proofs.lemmas.Bool.{cases_lt}
 use Rattle.std.proofs.lemmas.List.{append-nil}
 use Rattle.peb_base.specs.declared.profile.Profile.{Profile}
 use Rattle.peb_base.specs.Batches.{Batches, are_in_order}
@@ -11,14 +12,14 @@ use Rattle.record_log.specs.declared.header.Header.{Header}
 use Rattle.record_log.specs.declared.record.Record.{Record}
 use Rattle.record_log.specs.Groups.{group_bytes, placed}
 use Rattle.record_log.specs.Log.{IsLog, IsUnfinished, IsDamaged}
-use Rattle.record_log.specs.Records.{body_of, bodies_of, views}
+use Rattle.record_log.specs.Records.{bodies_of, views}
 use Rattle.flsm_core.specs.declared.found.Found.{Found}
 use Rattle.flsm_core.specs.Logs.{Held, flat, HoldsLogs, BeginsLogs, AreRecords, IsBatchIn, Spells, SpellsAll, Reads, greatest_session}
 use Rattle.flsm_core.specs.Opening.{IsReplayOf, IsFound, CantGoOn, IsUnreadable}
 use Rattle.flsm_core.proofs.Held.{of_push}
 use Rattle.flsm_core.proofs.Orders.{front_in_order}
 use Rattle.flsm_core.proofs.Spelled.{spells_next}
-use Rattle.flsm_core.proofs.Replays.{OneBatch, same_records}
+use Rattle.flsm_core.proofs.Replays.{OneBatch, same_records, bodies_viewed}
 
 -- the laws of the log that this stands on
 abbrev pub OneLog : Type 0
@@ -55,18 +56,23 @@ pub begins_end : (n k : ℕ) (logs : List Held) (image : Image) → n + length l
 begins_end n k [] image at begins absent = let e : k ≡ n = omega (arith, at) in subst (λ m. IsUnfinished (image (Log m))) e absent
 begins_end n k (x ∷ logs) image at begins absent = (begins.0, begins_end (suc n) k logs image (omega (arith, at)) begins.1 absent)
 
+-- logs that are read are there
+pub holds_made : Finished → (n : ℕ) (logs : List Held) (image : Image) → HoldsLogs n logs image → (m : ℕ) → n ≤ m → m < n + length logs → IsUnfinished (image (Log m)) → ⊥
+holds_made fin n [] image holds m from below none = omega (arith, from, below)
+holds_made fin n (x ∷ logs) image holds m from below none = elim (cases_lt n m) [
+  | inl later ↦ holds_made fin (suc n) logs image holds.1 m (omega (arith, later)) (omega (arith, below)) none
+  | inr last ↦ let here : m ≡ n = omega (arith, last, from) in
+      fin (Log m) (image (Log m)) x.header x.groups (subst (λ (k : ℕ). IsLog (Log k) x.header x.groups (image (Log k))) (sym here) holds.0) none
+]
+
 -- the bodies that were read are those of the groups
-bodies_placed : (at : ℕ) (groups : List (List (List ℕ))) → map (λ (v : ℕ × List ℕ). v.1) (placed at groups) ≡ flat groups
+pub bodies_placed : (at : ℕ) (groups : List (List (List ℕ))) → map (λ (v : ℕ × List ℕ). v.1) (placed at groups) ≡ flat groups
 bodies_placed at [] = refl
 bodies_placed at (group ∷ groups) = joined group (placed (at + length (group_bytes group)) groups) ∙ ap (λ r. group ++ r) (bodies_placed (at + length (group_bytes group)) groups)
   where
     joined : (xs : List (List ℕ)) (rest : List (ℕ × List ℕ)) → map (λ (v : ℕ × List ℕ). v.1) (map (λ body. (at, body)) xs ++ rest) ≡ xs ++ map (λ (v : ℕ × List ℕ). v.1) rest
     joined [] rest = refl
     joined (x ∷ xs) rest = ap (λ r. x ∷ r) (joined xs rest)
-
-bodies_viewed : (records : List Record) → map (λ (v : ℕ × List ℕ). v.1) (views records) ≡ bodies_of records
-bodies_viewed [] = refl
-bodies_viewed (r ∷ records) = ap (λ rest. body_of r ∷ rest) (bodies_viewed records)
 
 pub bodies_read : (records : List Record) (groups : List (List (List ℕ))) → views records ≡ placed 24 groups → flat groups ≡ bodies_of records
 bodies_read records groups given = sym (bodies_placed 24 groups) ∙ ap (map (λ (v : ℕ × List ℕ). v.1)) (sym given) ∙ bodies_viewed records

@@ -16,58 +16,86 @@ use Rattle.record_log.specs.declared.record.Record.{Record}
 use Rattle.record_log.specs.declared.log_fault.LogFault.{LogFault}
 use Rattle.record_log.specs.declared.log_fault.LogFault.TheVariants as logs
 use Rattle.record_log.specs.Damage.{AtDamage}
+use Rattle.record_log.specs.Groups.{placed}
 use Rattle.record_log.specs.Log.{IsLog, IsUnfinished, IsDamaged, Holds}
 use Rattle.record_log.specs.Records.{bodies_of, views}
 use Rattle.flsm_core.specs.declared.open_fault.OpenFault.{OpenFault}
 use Rattle.flsm_core.specs.declared.open_fault.OpenFault.TheVariants as opens
 use Rattle.flsm_core.specs.declared.found.Found.{Found}
 use Rattle.disk_model.specs.declared.journal.Journal.{Ghosts}
-use Rattle.flsm_core.specs.Logs.{Held, flat, AreOf, BeginsLogs, HoldsLogs, Reads, ReadsAs, Stands}
-use Rattle.flsm_core.specs.Opening.{IsFound, CantGoOn, AddCause, OpenCause, HasReadLog, HasWatched, AreKept, OpensOn, Quiet, HasRead, fault_of}
+use Rattle.flsm_core.specs.Logs.{Held, flat, BeginsLogs, HoldsLogs, Reads, ReadsAs, Stands}
+use Rattle.flsm_core.specs.Opening.{IsFound, CantGoOn, StopsAt, AddCause, OpenCause, ReadsFirst, HasReadLog, HasWatched, AreKept, OpensOn, Quiet, HasRead, fault_of}
 use Rattle.flsm_core.specs.Place.{start_at}
-use Rattle.flsm_core.proofs.Founds.{OneLog, Undamaged, Finished, begins_more, unreadable_log, unreadable_records, bodies_read, one_reading, SameReading}
-use Rattle.flsm_core.proofs.Replays.{OneBatch}
+use Rattle.flsm_core.proofs.Founds.{OneLog, Undamaged, Finished, begins_more, unreadable_log, unreadable_records, bodies_placed, bodies_read, one_reading, SameReading}
+use Rattle.flsm_core.proofs.Replays.{OneBatch, stopped_cant}
+
+-- the logs that were found are read
+reads_first : (profile : Profile) (seen : Image) (found : Found) (held : List Held) (batches : Batches) → BeginsLogs 1 held seen → IsFound profile found held batches
+    → ReadsFirst profile seen held batches
+reads_first profile seen found held batches begins is = record { begins = begins; same = is.same; spelled = is.spelled; ordered = is.replay.ordered }
 
 -- the next log wasn't read
-pub open_refused : Finished → OneLog → Undamaged → (rose : Type 0) (tells : Bool) (seen : Image) (profile : Profile) (number : ℕ) (held : List Held) (fault : LogFault)
-    → 1 + length held ≡ number → AreOf profile held → (IsTrue tells → BeginsLogs 1 held seen) → (fault ≡ logs.Fault → rose)
+pub open_refused : Finished → OneLog → Undamaged → (rose : Type 0) (tells : Bool) (seen : Image) (profile : Profile) (number : ℕ) (found : Found) (held : List Held) (batches : Batches)
+    (fault : LogFault) → 1 + length held ≡ number → IsFound profile found held batches → (IsTrue tells → BeginsLogs 1 held seen) → (fault ≡ logs.Fault → rose)
     → (IsTrue tells → AtDamage fault (λ at. (bytes : List ℕ) × (seen (Log number) ≡ Some bytes) × IsDamaged (Log number) bytes at))
     → OpenCause rose tells seen profile (fault_of number fault)
-open_refused fin one un rose tells seen profile number held logs.Fault size same begins cause damage = cause refl
-open_refused fin one un rose tells seen profile number held (logs.Damaged at) size same begins cause damage = (
+open_refused fin one un rose tells seen profile number found held batches logs.Fault size is begins cause damage = cause refl
+open_refused fin one un rose tells seen profile number found held batches (logs.Damaged at) size is begins cause damage = (
   number,
   refl,
-  λ told. let d = damage told in (unreadable_log fin one un number at held seen d.0 size (begins told) d.1 d.2, (held, begins told, same, omega (arith, size))),
+  λ told. let d = damage told in (
+    unreadable_log fin one un number at held seen d.0 size (begins told) d.1 d.2,
+    record {
+      logs = held;
+      batches = batches;
+      reads = reads_first profile seen found held batches (begins told) is;
+      next = omega (arith, size);
+      damage = inl d;
+    },
+  ),
 )
-open_refused fin one un rose tells seen profile number held logs.Memory size same begins cause damage = tt
+open_refused fin one un rose tells seen profile number found held batches logs.Memory size is begins cause damage = tt
 
 -- the next log is one of those that are read
-read_log : (number : ℕ) (held : List Held) (header : Header) (records : List Record) (seen : Image) (P : Header → Type 0) → 1 + length held ≡ number → BeginsLogs 1 held seen
-    → Holds (Log number) header (views records) (seen (Log number)) → P header → HasReadLog seen P
-read_log number held header records seen P size begins holds is =
+read_log : (profile : Profile) (number : ℕ) (found : Found) (held : List Held) (batches : Batches) (header : Header) (records : List Record) (seen : Image) (P : Header → Type 0)
+    → 1 + length held ≡ number → IsFound profile found held batches → BeginsLogs 1 held seen
+    → Holds (Log number) header (views records) (seen (Log number)) → P header → HasReadLog profile seen P
+read_log profile number found held batches header records seen P size is begins holds so =
     let log : Held = record { header = header; groups = holds.groups } in
-    (held, log, begins_more 1 number held log seen size begins holds.log, is)
+    (held, batches, log, reads_first profile seen found held batches begins is, begins_more 1 number held log seen size begins holds.log, so)
 
 -- the next log wasn't taken in
 pub add_refused : Finished → OneLog → OneBatch → (rose : Type 0) (tells : Bool) (seen : Image) (profile : Profile) (number : ℕ) (found : Found) (held : List Held) (batches : Batches)
     (header : Header) (records : List Record) (fault : OpenFault) → 1 + length held ≡ number → (IsTrue tells → BeginsLogs 1 held seen) → IsFound profile found held batches
     → (IsTrue tells → Holds (Log number) header (views records) (seen (Log number)))
-    → AddCause profile number header ((held : List Held) (batches : Batches) → IsFound profile found held batches → CantGoOn header.session batches (bodies_of records)) fault
+    → AddCause profile number header (λ at. (held : List Held) (batches : Batches) → IsFound profile found held batches → StopsAt header.session batches (views records) at) fault
     → OpenCause rose tells seen profile fault
 add_refused fin one batch rose tells seen profile number found held batches header records opens.Journal size begins is holds cause = absurd cause
 add_refused fin one batch rose tells seen profile number found held batches header records (opens.Damaged file at) size begins is holds cause = (
   number,
   cause.0,
-  λ told. let h = holds told in (
-    unreadable_records fin one batch number held batches (record { header = header; groups = h.groups }) seen size (begins told) is.spelled h.log
-        (subst (λ bodies. CantGoOn header.session batches bodies) (sym (bodies_read records h.groups h.given)) (cause.1 held batches is)),
-    (held, begins told, is.same, omega (arith, size)),
-  ),
+  λ told.
+      let h = holds told in
+      let log : Held = record { header = header; groups = h.groups } in
+      let stops : StopsAt header.session batches (placed 24 h.groups) at = subst (λ records. StopsAt header.session batches records at) h.given (cause.3 held batches is) in (
+        unreadable_records fin one batch number held batches log seen size (begins told) is.spelled h.log
+            (subst (λ bodies. CantGoOn header.session batches bodies) (bodies_placed 24 h.groups) (stopped_cant batch header.session batches (placed 24 h.groups) at stops)),
+        record {
+          logs = held;
+          batches = batches;
+          reads = reads_first profile seen found held batches (begins told) is;
+          next = omega (arith, size);
+          damage = inr (record { log = log; form = h.log; same = cause.1; followed = cause.2; stops = stops });
+        },
+      ),
 )
 add_refused fin one batch rose tells seen profile number found held batches header records (opens.Profile have asked) size begins is holds cause =
-    (cause.1, cause.2, λ told. read_log number held header records seen (λ h. h.profile ≡ have) size (begins told) (holds told) (sym cause.0))
-add_refused fin one batch rose tells seen profile number found held batches header records (opens.Limit kind n) size begins is holds cause =
-    (cause.0, cause.1, λ told. read_log number held header records seen (λ h. (h.profile ≡ profile) × (8388607 ≤ h.session)) size (begins told) (holds told) (cause.2, cause.3))
+    (cause.1, cause.2, λ told. read_log profile number found held batches header records seen (λ h. h.profile ≡ have) size is (begins told) (holds told) (sym cause.0))
+add_refused fin one batch rose tells seen profile number found held batches header records (opens.Limit kind n) size begins is holds cause = (
+  cause.0,
+  cause.1,
+  λ told. read_log profile number found held batches header records seen (λ h. (h.profile ≡ profile) × (8388607 ≤ h.session)) size is (begins told) (holds told) (cause.2, cause.3),
+)
 add_refused fin one batch rose tells seen profile number found held batches header records opens.Memory size begins is holds cause = tt
 
 -- the log that was taken in

@@ -11,10 +11,10 @@ use Rattle.peb_base.specs.Batches.{Batches, numbered, last_number, ordered_above
 use Rattle.peb_base.specs.Map.{Map, apply_change, apply_entries, map_at}
 use Rattle.peb_base.specs.MapLaws.{last_of_push, in_order_push, map_after}
 use Rattle.record_log.specs.declared.record.Record.{Record}
-use Rattle.record_log.specs.Records.{body_of, bodies_of}
+use Rattle.record_log.specs.Records.{body_of, bodies_of, view_of, views}
 use Rattle.record_log.specs.BatchRecord.{batch_bytes, IsBatch}
 use Rattle.flsm_core.specs.declared.replay.Replay.{Replay}
-use Rattle.flsm_core.specs.Opening.{IsReplayOf, CantGoOn}
+use Rattle.flsm_core.specs.Opening.{IsReplayOf, CantGoOn, StopsAt}
 use Rattle.flsm_core.specs.Logs.{record_of, record_of-is, IsBatchIn, AreRecords}
 use Rattle.flsm_core.proofs.Orders.{front_in_order}
 use Rattle.flsm_core.proofs.Spelled.{map-append, each-append}
@@ -182,3 +182,37 @@ pub bodies_split : (items : List Record) (i : ℕ) (item : Record) → i < lengt
 bodies_split items i item lt is =
     ap bodies_of (sym (take-append-drop i items) ∙ ap (λ r. take i items ++ r) (drop-cons items i item lt ∙ ap (λ x. x ∷ drop (suc i) items) (sym is)))
     ∙ map_append body_of (take i items) (item ∷ drop (suc i) items)
+
+-- the bodies of records, whether or not with their places
+pub bodies_viewed : (records : List Record) → map (λ (v : ℕ × List ℕ). v.1) (views records) ≡ bodies_of records
+bodies_viewed [] = refl
+bodies_viewed (r ∷ records) = ap (λ rest. body_of r ∷ rest) (bodies_viewed records)
+
+pub views_split : (items : List Record) (i : ℕ) (item : Record) → i < length items → item ≡ get_or items i item
+    → views items ≡ views (take i items) ++ (item.gate, item.body.items) ∷ views (drop (suc i) items)
+views_split items i item lt is =
+    ap views (sym (take-append-drop i items) ∙ ap (λ r. take i items ++ r) (drop-cons items i item lt ∙ ap (λ x. x ∷ drop (suc i) items) (sym is)))
+    ∙ map_append view_of (take i items) (item ∷ drop (suc i) items)
+
+-- the first record that can't go on
+pub stops_there : (session : ℕ) (batches own : Batches) (items : List Record) (i at : ℕ) (item : Record) → i < length items → item ≡ get_or items i item → at ≡ item.gate
+    → AreRecords session (bodies_of (take i items)) own → are_in_order (batches ++ own) ≡ true → CantGoOn session (batches ++ own) (item.body.items ∷ [])
+    → StopsAt session batches (views items) at
+stops_there session batches own items i at item lt is gate spelled ordered cant = record {
+  before = views (take i items);
+  body = item.body.items;
+  behind = views (drop (suc i) items);
+  own = own;
+  split = views_split items i item lt is ∙ ap (λ (n : ℕ). views (take i items) ++ (n, item.body.items) ∷ views (drop (suc i) items)) (sym gate);
+  spelled = subst (λ bodies. AreRecords session bodies own) (sym (bodies_viewed (take i items))) spelled;
+  ordered = ordered;
+  cant = cant;
+}
+
+-- then the records as a whole can't
+pub stopped_cant : OneBatch → (session : ℕ) (batches : Batches) (records : List (ℕ × List ℕ)) (at : ℕ) → StopsAt session batches records at
+    → CantGoOn session batches (map (λ (v : ℕ × List ℕ). v.1) records)
+stopped_cant one session batches records at stops =
+    let split : map (λ (v : ℕ × List ℕ). v.1) records ≡ map (λ (v : ℕ × List ℕ). v.1) stops.before ++ stops.body ∷ map (λ (v : ℕ × List ℕ). v.1) stops.behind =
+    ap (map (λ (v : ℕ × List ℕ). v.1)) stops.split ∙ map_append (λ (v : ℕ × List ℕ). v.1) stops.before ((at, stops.body) ∷ stops.behind) in
+    subst (λ bodies. CantGoOn session batches bodies) (sym split) (cant_finish one session batches stops.own _ _ _ stops.spelled stops.cant)

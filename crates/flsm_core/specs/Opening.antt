@@ -1,5 +1,5 @@
 -- What an opening reads, and why it is refused.
-use Rattle.std.specs.Prelude.{◌≡◌, ◌≢◌, ℕ, suc, ◌<◌, ◌≤◌, None, Bool, true, false, IsTrue, List, [], ◌∷◌, ◌++◌, length}
+use Rattle.std.specs.Prelude.{◌≡◌, ◌≢◌, ◌⊎◌, ℕ, suc, ◌<◌, ◌≤◌, None, Some, Bool, true, false, IsTrue, List, [], ◌∷◌, ◌++◌, map, length}
 use Rattle.peb_base.specs.declared.file_name.FileName.TheVariants as names
 use Rattle.peb_base.specs.declared.limit_kind.LimitKind.TheVariants as kinds
 use Rattle.peb_base.specs.declared.profile.Profile.{Profile}
@@ -9,6 +9,8 @@ use Rattle.disk_model.specs.declared.journal_file.JournalFile.TheVariants.{Log}
 use Rattle.disk_model.specs.Images.{Image, Elapses, Keeps}
 use Rattle.disk_model.specs.Told.{JournalTold}
 use Rattle.record_log.specs.declared.header.Header.{Header}
+use Rattle.record_log.specs.Groups.{placed}
+use Rattle.record_log.specs.Log.{IsLog, IsDamaged}
 use Rattle.record_log.specs.declared.log_fault.LogFault.{LogFault}
 use Rattle.record_log.specs.declared.log_fault.LogFault.TheVariants as logs
 use Rattle.flsm_core.specs.declared.open_fault.OpenFault.{OpenFault}
@@ -35,28 +37,73 @@ IsUnreadable image =
     (profile : Profile) (logs : List Held) (batches : Batches) → Reads profile image logs batches
     → ⊥
 
--- one of the logs from 1 up to the first absent one has a header that is so
-abbrev pub HasReadLog : Image → (Header → Type 0) → Type 0
-HasReadLog image P =
-    (logs : List Held) × (log : Held) × BeginsLogs 1 (logs ++ log ∷ []) image × P log.header
+-- these first logs of the image are read, all of this profile: they spell these batches, in order
+pub record ReadsFirst (profile : Profile) (image : Image) (logs : List Held)
+    (batches : Batches) : Type 0 where
+  pub begins : BeginsLogs 1 logs image
+  pub same : AreOf profile logs
+  pub spelled : SpellsAll logs batches
+  pub ordered : are_in_order batches ≡ true
 
--- the log of this number comes right after first logs of the image, all of this profile
-abbrev pub ComesAfterLogs : Profile → ℕ → Image → Type 0
-ComesAfterLogs profile n image =
-    (logs : List Held) × BeginsLogs 1 logs image × AreOf profile logs × (n ≡ suc (length logs))
+-- right after first logs that are read comes one whose header is so
+abbrev pub HasReadLog : Profile → Image → (Header → Type 0) → Type 0
+HasReadLog profile image P =
+    (logs : List Held) × (batches : Batches) × (log : Held) × ReadsFirst profile image logs batches
+    × BeginsLogs 1 (logs ++ log ∷ []) image × P log.header
+
+-- no batches that these records spell go on after those
+abbrev pub CantGoOn : ℕ → Batches → List (List ℕ) → Type 0
+CantGoOn session batches bodies = (own : Batches) → AreRecords session bodies own
+    → are_in_order (batches ++ own) ≡ true → ⊥
+
+-- These records of a log, each with the place of its group's gate, go on after the batches up to the
+-- first one that is no batch that may stand there: its group's gate is at this place.
+pub record StopsAt (session : ℕ) (batches : Batches) (records : List (ℕ × List ℕ))
+    (at : ℕ) : Type 0 where
+  pub before : List (ℕ × List ℕ)
+  pub body : List ℕ
+  pub behind : List (ℕ × List ℕ)
+  pub own : Batches
+  pub split : records ≡ before ++ (at, body) ∷ behind
+  pub spelled : AreRecords session (map (λ r. r.1) before) own
+  pub ordered : are_in_order (batches ++ own) ≡ true
+  pub cant : CantGoOn session (batches ++ own) (body ∷ [])
+
+-- the log of this number was created to its end, and this is the first place that isn't in form
+abbrev pub IsOutOfForm : ℕ → ℕ → Image → Type 0
+IsOutOfForm n at image =
+    (bytes : List ℕ) × (image (Log n) ≡ Some bytes) × IsDamaged (Log n) bytes at
+
+-- the log of this number is in form, of this profile and of a session that has a next one, and this
+-- is the gate of the first record that can't stand behind the batches
+pub record IsOutOfOrder (profile : Profile) (batches : Batches) (n at : ℕ)
+    (image : Image) : Type 0 where
+  pub log : Held
+  pub form : IsLog (Log n) log.header log.groups (image (Log n))
+  pub same : log.header.profile ≡ profile
+  pub followed : log.header.session < 8388607
+  pub stops : StopsAt log.header.session batches (placed 24 log.groups) at
+
+-- the logs before this number are read, and this one is damaged at this place
+pub record IsFirstDamage (profile : Profile) (n at : ℕ) (image : Image) : Type 0 where
+  pub logs : List Held
+  pub batches : Batches
+  pub reads : ReadsFirst profile image logs batches
+  pub next : n ≡ suc (length logs)
+  pub damage : IsOutOfForm n at image ⊎ IsOutOfOrder profile batches n at image
 
 -- why an opening was refused, where the journal rose, and where it tells what it held
 abbrev pub OpenCause : Type 0 → Bool → Image → Profile → OpenFault → Type 0
 OpenCause rose tells seen profile opens.Journal = rose
 OpenCause rose tells seen profile (opens.Damaged file at) = (n : ℕ) × (file ≡ names.Log n)
-    × (IsTrue tells → IsUnreadable seen × ComesAfterLogs profile n seen)
+    × (IsTrue tells → IsUnreadable seen × IsFirstDamage profile n at seen)
 OpenCause rose tells seen profile (opens.Profile have asked) =
     (asked ≡ profile) × (have ≢ profile)
-    × (IsTrue tells → HasReadLog seen (λ header. header.profile ≡ have))
+    × (IsTrue tells → HasReadLog profile seen (λ header. header.profile ≡ have))
 OpenCause rose tells seen profile (opens.Limit kind n) =
     (kind ≡ kinds.Openings) × (n ≡ 8388607)
-    × (IsTrue tells
-    → HasReadLog seen (λ header. (header.profile ≡ profile) × (8388607 ≤ header.session)))
+    × (IsTrue tells → HasReadLog profile seen
+    (λ header. (header.profile ≡ profile) × (8388607 ≤ header.session)))
 OpenCause rose tells seen profile opens.Memory = Unit {0}
 
 -- ---- the reading of logs, one after another
@@ -67,14 +114,9 @@ pub record IsReplayOf (replay : Replay) (batches : Batches) : Type 0 where
   pub last : replay.last ≡ last_number batches
   pub current : replay.current ≡ map_at batches (last_number batches)
 
--- no batches that these records spell go on after those
-abbrev pub CantGoOn : ℕ → Batches → List (List ℕ) → Type 0
-CantGoOn session batches bodies = (own : Batches) → AreRecords session bodies own
-    → are_in_order (batches ++ own) ≡ true → ⊥
-
--- P, where damage is what the fault tells
-abbrev pub OnDamage : ReplayFault → Type 0 → Type 0
-OnDamage (replays.Damaged at) P = P
+-- P of the place of the damage, where damage is what the fault tells
+abbrev pub OnDamage : ReplayFault → (ℕ → Type 0) → Type 0
+OnDamage (replays.Damaged at) P = P at
 OnDamage replays.Memory P = Unit {0}
 
 -- these logs were found, in this profile, and they spell these batches
@@ -98,10 +140,11 @@ abbrev pub AreKept : {D : Type 0} → Ghosts D → D → ℕ → Type 0
 AreKept d journal n = (m : ℕ) → 1 ≤ m → m ≤ n
     → Keeps (Log m) (d.seen journal (Log m)) (d.may_leave journal)
 
--- why the next log wasn't taken in, where P says that its records can't go on
-abbrev pub AddCause : Profile → ℕ → Header → Type 0 → OpenFault → Type 0
+-- why the next log wasn't taken in, where P says of a place that its records stop there
+abbrev pub AddCause : Profile → ℕ → Header → (ℕ → Type 0) → OpenFault → Type 0
 AddCause profile number header P opens.Journal = ⊥
-AddCause profile number header P (opens.Damaged file at) = (file ≡ names.Log number) × P
+AddCause profile number header P (opens.Damaged file at) = (file ≡ names.Log number)
+    × (header.profile ≡ profile) × (header.session < 8388607) × P at
 AddCause profile number header P (opens.Profile have asked) = (have ≡ header.profile)
     × (asked ≡ profile) × (have ≢ profile)
 AddCause profile number header P (opens.Limit kind n) = (kind ≡ kinds.Openings) × (n ≡ 8388607)

@@ -3,7 +3,7 @@ ghost use Rattle.peb_base.specs.Batches.{Batches};
 ghost use Rattle.peb_base.specs.declared.profile.Profile.{Profile};
 ghost use Rattle.disk_model.specs.declared.journal_file.JournalFile.TheVariants.{Log};
 ghost use Rattle.record_log.specs.Header.{IsHeaderOf};
-ghost use Rattle.record_log.specs.Records.{bodies_of};
+ghost use Rattle.record_log.specs.Records.{bodies_of, views};
 ghost use Rattle.flsm_core.specs.Logs.{Held, flat};
 
 use crate::open_fault::OpenFault;
@@ -30,7 +30,7 @@ pub struct Found {
 }
 
 impl Found {
-    ghost use Rattle.flsm_core.specs.Opening.{IsFound, CantGoOn, AddCause};
+    ghost use Rattle.flsm_core.specs.Opening.{IsFound, StopsAt, AddCause};
 
     /// Nothing was read.
     pub fn new(alloc: Global) -> Found
@@ -47,7 +47,8 @@ impl Found {
     ///
     /// `Profile` comes exactly where the header has another profile than the one asked for, then
     /// `Limit` exactly where no session is left above the header's, then `Damaged` only where the
-    /// records spell no batches that go on after those before.
+    /// records spell no batches that go on after those before, told at the gate of the first that
+    /// can't stand there.
     pub fn add_log(
         self,
         alloc: Global,
@@ -62,8 +63,8 @@ impl Found {
             → (own : Batches) × IsFound profile found (logs ++ log ∷ []) (batches ++ own)) }
         ensures count { IfOk result (λ found. found.logs ≡ self.logs + 1) }
         ensures cause { IfErr result (AddCause profile (self.logs + 1) header.now
-            ((logs : List Held) (batches : Batches) → IsFound profile self logs batches
-            → CantGoOn header.now.session batches (bodies_of records.now))) }
+            (λ at. (logs : List Held) (batches : Batches) → IsFound profile self logs batches
+            → StopsAt header.now.session batches (views records.now) at)) }
     {
         let session = header.session;
         if header.profile != profile {

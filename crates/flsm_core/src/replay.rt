@@ -3,7 +3,7 @@ ghost use Rattle.peb_base.specs.declared.op.Op.{Op};
 ghost use Rattle.peb_base.specs.Batches.{Batches, numbered};
 ghost use Rattle.peb_base.specs.Map.{apply_entries};
 ghost use Rattle.peb_base.specs.Numbers.{session_of};
-ghost use Rattle.record_log.specs.Records.{bodies_of};
+ghost use Rattle.record_log.specs.Records.{bodies_of, views};
 ghost use Rattle.flsm_core.specs.Logs.{record_of, IsBatchIn, AreRecords};
 
 use crate::current_map::CurrentMap;
@@ -40,7 +40,7 @@ fn last_of(first: Number, batch: &Batch) -> Number
 }
 
 impl Replay {
-    ghost use Rattle.flsm_core.specs.Opening.{IsReplayOf, CantGoOn, OnDamage};
+    ghost use Rattle.flsm_core.specs.Opening.{IsReplayOf, CantGoOn, StopsAt, OnDamage};
 
     /// Nothing was read.
     pub fn new(alloc: Global) -> Replay
@@ -64,8 +64,9 @@ impl Replay {
             → (b : ℕ × List Op) × IsBatchIn session b × (item.now.body.items ≡ record_of b)
             × IsReplayOf self.new (batches ++ b ∷ [])) }
         ensures here { OnOk result (session_of self.new.last ≡ session) }
-        ensures damaged { IfErr result (λ fault. OnDamage fault ((batches : Batches)
-            → IsReplayOf self.old batches → CantGoOn session batches (item.now.body.items ∷ []))) }
+        ensures damaged { IfErr result (λ fault. OnDamage fault (λ at. (at ≡ item.now.gate)
+            × ((batches : Batches) → IsReplayOf self.old batches
+            → CantGoOn session batches (item.now.body.items ∷ [])))) }
     {
         one_batch();
         let (first, batch) = match read_batch(alloc, &item.body) {
@@ -100,8 +101,8 @@ impl Replay {
             × IsReplayOf self.new (batches ++ own)) }
         ensures here { OnOk result ((self.new.last ≡ self.old.last)
             ⊎ (session_of self.new.last ≡ session)) }
-        ensures damaged { IfErr result (λ fault. OnDamage fault ((batches : Batches)
-            → IsReplayOf self.old batches → CantGoOn session batches (bodies_of items.now))) }
+        ensures damaged { IfErr result (λ fault. OnDamage fault (λ at. (batches : Batches)
+            → IsReplayOf self.old batches → StopsAt session batches (views items.now) at)) }
     {
         one_batch();
         for item in items {

@@ -1,9 +1,9 @@
 use Rattle.std.proofs.Common.{◌≡◌, ◌+◌, List, arith, length, sym, ap, ◌∙◌, Err, subst}
 use Rattle.peb_base.specs.Batches.{Batches}
 use Rattle.record_log.specs.declared.record.Record.{Record}
-use Rattle.record_log.specs.Records.{bodies_of}
+use Rattle.record_log.specs.Records.{bodies_of, views}
 use Rattle.flsm_core.specs.Logs.{Held}
-use Rattle.flsm_core.specs.Opening.{IsFound, CantGoOn, AddCause, OpenCause}
+use Rattle.flsm_core.specs.Opening.{IsFound, StopsAt, AddCause, OpenCause}
 use Rattle.disk_model.specs.declared.journal_file.JournalFile.TheVariants.{Log}
 use Rattle.disk_model.specs.Images.{Rose}
 use Rattle.flsm_core.proofs.Founds.{begins_more}
@@ -16,7 +16,7 @@ returns-in-Err-clause-cause g c = λ logs batches is begins.
     subst (λ fault. OpenCause (Rose (g.J.Journal.faults c.args.journal.now) (g.J.Journal.faults c.open.new.journal)) g.J.Journal.tells (g.J.Journal.seen c.args.journal.now) c.args.profile fault)
     (sym c.fault_of.ensures)
     (open_refused c.one_reading.ensures.finished c.one_reading.ensures.one_log c.one_reading.ensures.undamaged _ g.J.Journal.tells (g.J.Journal.seen c.args.journal.now) c.args.profile
-    (c.args.found.logs + 1) logs c.in-Err.fault size is.same begins (λ e. c.in-Err.ensures.fault (ap Err e)) c.in-Err.ensures.damaged)
+    (c.args.found.logs + 1) c.args.found logs batches c.in-Err.fault size is begins (λ e. c.in-Err.ensures.fault (ap Err e)) c.in-Err.ensures.damaged)
 
 pub returns-in-Ok-clause-more : goal.returns-in-Ok-clause-more
 returns-in-Ok-clause-more g c = λ more logs batches is begins.
@@ -32,7 +32,7 @@ returns-clause-cause g c = λ logs batches is begins.
     let found = rw c.in-Ok-Some.field-0-is at c.in-Ok-Some.ensures.found in
     add_refused c.one_reading.ensures.finished c.one_reading.ensures.one_log c.one_batch.ensures _ g.J.Journal.tells (g.J.Journal.seen c.args.journal.now) c.args.profile
     (c.args.found.logs + 1) c.args.found logs batches c.in-Ok-Some.log.0 c.in-Ok-Some.log.1.items c.in-Err-add_log.fault size begins is found
-    (subst (λ (rs : List Record). AddCause c.args.profile (c.args.found.logs + 1) c.in-Ok-Some.log.0 ((held : List Held) (bs : Batches) → IsFound c.args.profile c.args.found held bs → CantGoOn c.in-Ok-Some.log.0.session bs (bodies_of rs)) c.in-Err-add_log.fault)
+    (subst (λ (rs : List Record). AddCause c.args.profile (c.args.found.logs + 1) c.in-Ok-Some.log.0 (λ at. (held : List Held) (bs : Batches) → IsFound c.args.profile c.args.found held bs → StopsAt c.in-Ok-Some.log.0.session bs (views rs) at) c.in-Err-add_log.fault)
     c.deref.ensures.value c.in-Err-add_log.ensures.cause)
 
 pub returns-in-Ok-clause-watched : goal.returns-in-Ok-clause-watched

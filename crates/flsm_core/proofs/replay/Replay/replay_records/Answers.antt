@@ -1,12 +1,12 @@
-use Rattle.std.proofs.Common.{◌++◌, ◌∷◌, [], sym, subst, append_assoc, refl, inl, inr}
+use Rattle.std.proofs.Common.{ℕ, ◌++◌, ◌∷◌, [], sym, subst, append_assoc, refl, inl, inr}
 use Rattle.std.proofs.lemmas.List.{append-nil, take_all}
 use Rattle.peb_base.specs.Batches.{Batches}
 use Rattle.record_log.specs.Records.{bodies_of}
 use Rattle.flsm_core.specs.declared.replay_fault.ReplayFault.{ReplayFault}
 use Rattle.flsm_core.specs.declared.replay_fault.ReplayFault.TheVariants as replays
 use Rattle.flsm_core.specs.Logs.{AreRecords}
-use Rattle.flsm_core.specs.Opening.{IsReplayOf, CantGoOn, OnDamage}
-use Rattle.flsm_core.proofs.Replays.{one_more_record, cant_finish, bodies_step, bodies_split}
+use Rattle.flsm_core.specs.Opening.{IsReplayOf, OnDamage}
+use Rattle.flsm_core.proofs.Replays.{one_more_record, bodies_step, stops_there}
 use Rattle.flsm_core.proofs.replay.Replay.replay_records.Goals as goal
 
 pub loop-item-init : goal.loop-item-init
@@ -28,15 +28,15 @@ loop-item-preserved c = record {
   here = inr c.in-Ok.ensures.here;
 }
 
-on_damage : (fault : ReplayFault) (P Q : Type 0) → (P → Q) → OnDamage fault P → OnDamage fault Q
-on_damage (replays.Damaged at) P Q f p = f p
+on_damage : (fault : ReplayFault) (P Q : ℕ → Type 0) → ((at : ℕ) → P at → Q at) → OnDamage fault P → OnDamage fault Q
+on_damage (replays.Damaged at) P Q f p = f at p
 on_damage replays.Memory P Q f p = tt
 
 pub returns-in-Err-clause-damaged : goal.returns-in-Err-clause-damaged
-returns-in-Err-clause-damaged c = on_damage c.in-Err.fault _ _ (λ cant batches replay.
+returns-in-Err-clause-damaged c = on_damage c.in-Err.fault _ _ (λ at damage batches replay.
     let before = c.loop-item.invariant.so_far batches replay in
-    let split = bodies_split c.args.items.now c.loop-item.item-index c.item-item.result c.loop-item-test.true c.item-item.is in
-    subst (λ bs. CantGoOn c.args.session batches bs) (sym split) (cant_finish c.one_batch.ensures c.args.session batches before.0 _ _ _ before.1 (cant (batches ++ before.0) before.2)))
+    stops_there c.args.session batches before.0 c.args.items.now c.loop-item.item-index at c.item-item.result c.loop-item-test.true c.item-item.is damage.0
+    before.1 before.2.ordered (damage.1 (batches ++ before.0) before.2))
     c.in-Err.ensures.damaged
 
 pub returns-clause-ok : goal.returns-clause-ok
