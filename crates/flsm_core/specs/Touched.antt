@@ -1,6 +1,6 @@
 -- Which file of a journal calls have changed.
-use Rattle.std.specs.Prelude.{◌≡◌, ◌≢◌, ℕ, ◌≤◌, Bool, IsTrue}
-use Rattle.std.proofs.Common.{refl, ap, ◌∙◌, subst, arith}
+use Rattle.std.specs.Prelude.{◌≡◌, ◌≢◌, ℕ, ◌<◌, ◌≤◌, Bool, IsTrue}
+use Rattle.std.proofs.Common.{refl, sym, ap, ◌∙◌, subst, arith}
 use Rattle.disk_model.specs.declared.journal_file.JournalFile.{JournalFile}
 use Rattle.disk_model.specs.Images.{Image}
 use Rattle.disk_model.specs.Told.{JournalTold, TellsTheSame}
@@ -38,12 +38,14 @@ touched_on tells file a b c one two = record {
       (first.0, first.1, λ other differ. mid.2 other differ ∙ first.2 other differ);
 }
 
--- calls changed no file but this one, the first log that wasn't there
+-- calls changed no file but this one, the first log that wasn't there: each one before it was
 pub record HasTouchedNextLog (tells : Bool) (file : JournalFile)
     (old new : JournalTold) : Type 0 where
   pub number : ℕ
+  pub some : 1 ≤ number
   pub named : file ≡ Log number
   pub absent : IsTrue tells → IsUnfinished (old.seen (Log number))
+  pub first : IsTrue tells → (m : ℕ) → 1 ≤ m → m < number → IsUnfinished (old.seen (Log m)) → ⊥
   pub touched : HasTouched tells file old new
 
 -- what tells the same has changed no file
@@ -61,9 +63,12 @@ pub next_log_on : (tells : Bool) (file : JournalFile) (a b c d : JournalTold) �
     → HasTouchedNextLog tells file a d
 next_log_on tells file a b c d first next last = record {
   number = next.number;
+  some = next.some;
   named = next.named;
   absent = λ told. subst (λ (i : Image). IsUnfinished (i (Log next.number))) first.bytes
       (next.absent told);
+  first = λ told m from below none. next.first told m from below
+      (subst (λ (i : Image). IsUnfinished (i (Log m))) (sym first.bytes) none);
   touched = touched_on tells file a b d (touched_same tells file a b first)
       (touched_on tells file b c d next.touched last);
 }

@@ -9,6 +9,7 @@ use Rattle.disk_model.specs.declared.journal_file.JournalFile.{JournalFile}
 use Rattle.disk_model.specs.declared.journal_file.JournalFile.TheVariants.{Log}
 use Rattle.flsm_core.specs.Touched.{HasTouched, touched_on}
 use Rattle.flsm_core.proofs.Held.{holds_end}
+use Rattle.flsm_core.proofs.Founds.{holds_made}
 use Rattle.flsm_core.proofs.Touching.{touched_watched}
 use Rattle.flsm_core.proofs.Openings.{Read, same_base, has_read, base_read, if_ok, if_both, if_err, by_ok, by_err, both_ok, both_err}
 use Rattle.flsm_core.proofs.state.State.open.Goals as goal
@@ -122,8 +123,10 @@ returns-in-Ok-clause-next_log g c = by_ok c.begin.result _ _ _ (λ state made.
     let counts = g.met.J.Journal.counts_now c.args.journal in
     record {
       number = n;
+      some = omega arith;
       named = made.0;
       absent = λ told. holds_end 1 n found.0 (d.seen c.args.journal) (omega (arith, found.2.count)) (found.3 told);
+      first = λ told m from below. holds_made c.one_reading.ensures.finished 1 found.0 (d.seen c.args.journal) (found.3 told) m from (omega (arith, below, found.2.count));
       touched = subst (λ (file : JournalFile). HasTouched d.tells file old (told_by d state.journal)) (sym made.0)
           (touched_on d.tells (Log n) old mid (told_by d state.journal) (touched_watched d.tells (Log n) old mid counts c.read_logs.ensures.watched) made.1);
     })
@@ -141,8 +144,10 @@ returns-in-Ok-clause-next_log_err g c = by_err c.begin.result _ _ _ (λ e made.
       Log n,
       record {
         number = n;
+        some = omega arith;
         named = refl;
         absent = λ told. holds_end 1 n found.0 (d.seen c.args.journal) (omega (arith, found.2.count)) (found.3 told);
+        first = λ told m from below. holds_made c.one_reading.ensures.finished 1 found.0 (d.seen c.args.journal) (found.3 told) m from (omega (arith, below, found.2.count));
         touched = touched_on d.tells (Log n) old mid (told_by d e.1) (touched_watched d.tells (Log n) old mid counts c.read_logs.ensures.watched) made;
       },
     ))
