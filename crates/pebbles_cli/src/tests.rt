@@ -36,6 +36,11 @@ level 3 tables 0 entries 0 bytes 0 cuts 0 short 0 lost 0
 const LOG: &[u8] =
     b"\x01FLSML\x01\x01\0\0\0\0\0\0\0\x01\0\0\0\0\0\0\0\x01\x01\0\0\0\x17\0\0\0\x13\0\0\x01\0\0\0\0\x01\0\x01\x01\0\x01a\0\0\0\x011\0";
 
+/// The log of a second session, in which `a` was set to `2` and then to `3`: its groups' gates are
+/// at 24 and 52, and the closed one at 80.
+const SECOND_LOG: &[u8] =
+    b"\x01FLSML\x01\x01\0\0\0\0\0\0\0\x02\0\0\0\0\0\0\0\x02\x01\0\0\0\x17\0\0\0\x13\0\0\x02\0\0\0\0\x01\0\x01\x01\0\x01a\0\0\0\x012\x01\0\0\0\x17\0\0\0\x13\0\0\x02\0\0\0\0\x02\0\x01\x01\0\x01a\0\0\0\x013\0";
+
 const PICKS: [Pick; 6] = [
     Pick::Old,
     Pick::New,
@@ -165,9 +170,9 @@ fn failing(alloc: Global, call: u64) -> Result<FailPlan, Fail> {
     })
 }
 
-/// The log with other bytes at these places.
-fn log_with(alloc: Global, changes: &[(usize, u8)]) -> Result<Vec<u8>, Fail> {
-    let mut bytes = LOG.to_vec(alloc)?;
+/// A log with other bytes at these places.
+fn log_with(alloc: Global, log: &[u8], changes: &[(usize, u8)]) -> Result<Vec<u8>, Fail> {
+    let mut bytes = log.to_vec(alloc)?;
     for (place, byte) in changes {
         if let Some(old) = bytes.get_mut(*place) {
             *old = *byte;
@@ -230,7 +235,7 @@ fn an_empty_script_begins_a_session(rt: HostRuntime) -> Result<(), Fail> {
 
 /// Whether a store with these changes to its log is refused so, and its log is left alone.
 fn is_refused(alloc: Global, changes: &[(usize, u8)], end: (Cause, u8)) -> Result<bool, Fail> {
-    let log = log_with(alloc, changes)?;
+    let log = log_with(alloc, LOG, changes)?;
     let told = run_over(alloc, &log, b"get a\n")?;
     Ok(has_told(&told, end, b"", b"") && told.log == log)
 }
@@ -255,9 +260,57 @@ fn each_log_that_is_refused_has_its_cause(rt: HostRuntime) -> Result<(), Fail> {
     Ok(())
 }
 
+/// Runs `get a` over a directory with the first log and this second one.
+fn run_over_two(alloc: Global, second: &[u8]) -> Result<(Told, MemDevices), Fail> {
+    let devices = MemDevices::new(alloc, Plans::empty(alloc))?;
+    let devices = devices.with_file(JournalFile::Log(1), LOG)?;
+    run_well(
+        alloc,
+        devices.with_file(JournalFile::Log(2), second)?,
+        b"get a\n",
+    )
+}
+
+/// Whether a store whose second log has these first bytes, but for these changes, is refused at
+/// this place of it, and both logs are left alone.
+fn second_is_refused(
+    alloc: Global,
+    length: usize,
+    changes: &[(usize, u8)],
+    at: u64,
+) -> Result<bool, Fail> {
+    let mut second = log_with(alloc, SECOND_LOG, changes)?;
+    second.truncate(length);
+    let (told, devices) = run_over_two(alloc, &second)?;
+    let left = bytes_or_none(alloc, devices.bytes_of(JournalFile::Log(2)))?;
+    let damaged = Cause::Damaged(FileName::Log(2), at);
+    Ok(has_told(&told, (damaged, 6), b"", b"") && told.log.as_slice() == LOG && left == second)
+}
+
+#[test]
+fn damage_of_a_second_log_is_told_where_it_is(rt: HostRuntime) -> Result<(), Fail> {
+    let alloc = rt.alloc();
+    let (told, _) = run_over_two(alloc, SECOND_LOG)?;
+    // A byte of the header's letters; the number of another log; the first batch of the session
+    // before; the second of no kind, or with the number of the first; and the second group cut, or
+    // without its next gate.
+    let refused = [
+        second_is_refused(alloc, 81, &[(4, b'm')], 0)?,
+        second_is_refused(alloc, 81, &[(15, 1)], 0)?,
+        second_is_refused(alloc, 81, &[(35, 1)], 24)?,
+        second_is_refused(alloc, 81, &[(71, 2)], 52)?,
+        second_is_refused(alloc, 81, &[(68, 1)], 52)?,
+        second_is_refused(alloc, 70, &[], 52)?,
+        second_is_refused(alloc, 80, &[], 52)?,
+    ];
+    assert_eq!(rt; told.replies.as_slice(), b"2.2 value 3\n".as_slice());
+    assert_eq!(rt; refused, [true; 7]);
+    Ok(())
+}
+
 /// The replies to a script over a log with these changes.
 fn replies_over(alloc: Global, changes: &[(usize, u8)], script: &[u8]) -> Result<Vec<u8>, Fail> {
-    let log = log_with(alloc, changes)?;
+    let log = log_with(alloc, LOG, changes)?;
     Ok(run_over(alloc, &log, script)?.replies)
 }
 

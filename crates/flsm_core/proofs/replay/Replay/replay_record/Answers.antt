@@ -7,20 +7,29 @@ use Rattle.flsm_core.proofs.Replays.{no_batch, other_session, not_above, goes_on
 use Rattle.flsm_core.proofs.replay.Replay.replay_record.Goals as goal
 
 pub returns-in-Err-Form-clause-damaged : goal.returns-in-Err-Form-clause-damaged
-returns-in-Err-Form-clause-damaged c = (refl, λ batches replay.
-    no_batch c.args.session batches c.args.item.now.body.items
-    (λ first ops is spelled. c.in-Err-Form.ensures.form (ap Err c.in-Err-Form.field-0-is) first ops is (c.deref.ensures.value ∙ spelled)))
+returns-in-Err-Form-clause-damaged c = (
+  refl,
+  λ batches replay.
+      no_batch c.args.session batches c.args.item.now.body.items
+      (λ first ops is spelled. c.in-Err-Form.ensures.form (ap Err c.in-Err-Form.field-0-is) first ops is (c.deref.ensures.value ∙ spelled)),
+)
 
 pub returns-then-session-clause-damaged : goal.returns-then-session-clause-damaged
-returns-then-session-clause-damaged c = (refl, λ batches replay.
-    other_session c.one_batch.ensures c.args.session batches c.args.item.now.body.items c.in-Ok.found.0 c.in-Ok.found.1 c.in-Ok.ensures.batch
-    (sym c.deref.ensures.value ∙ c.in-Ok.ensures.bytes) (λ e. c.if-session.true (c.session.ensures.session ∙ e)))
+returns-then-session-clause-damaged c = (
+  refl,
+  λ batches replay.
+      other_session c.one_batch.ensures c.args.session batches c.args.item.now.body.items c.in-Ok.found.0 c.in-Ok.found.1 c.in-Ok.ensures.batch
+      (sym c.deref.ensures.value ∙ c.in-Ok.ensures.bytes) (λ e. c.if-session.true (c.session.ensures.session ∙ e)),
+)
 
 pub returns-then-packed-clause-damaged : goal.returns-then-packed-clause-damaged
-returns-then-packed-clause-damaged c = (refl, λ batches replay.
-    let low : c.in-Ok.found.0 ≤ c.args.self.now.last = omega (arith, c.if-packed.true, c.packed.ensures.number, c.packed-2.ensures.number) in
-    not_above c.one_batch.ensures c.args.session batches c.args.item.now.body.items c.in-Ok.found.0 c.in-Ok.found.1 c.in-Ok.ensures.batch
-    (sym c.deref.ensures.value ∙ c.in-Ok.ensures.bytes) (subst (λ (n : ℕ). c.in-Ok.found.0 ≤ n) replay.last low))
+returns-then-packed-clause-damaged c = (
+  refl,
+  λ batches replay.
+      let low : c.in-Ok.found.0 ≤ c.args.self.now.last = omega (arith, c.if-packed.true, c.packed.ensures.number, c.packed-2.ensures.number) in
+      not_above c.one_batch.ensures c.args.session batches c.args.item.now.body.items c.in-Ok.found.0 c.in-Ok.found.1 c.in-Ok.ensures.batch
+      (sym c.deref.ensures.value ∙ c.in-Ok.ensures.bytes) (subst (λ (n : ℕ). c.in-Ok.found.0 ≤ n) replay.last low),
+)
 
 pub returns-clause-ok : goal.returns-clause-ok
 returns-clause-ok c = λ batches replay.
