@@ -1,6 +1,6 @@
 -- Which file of a journal calls have changed.
-use Rattle.std.specs.Prelude.{◌≡◌, ◌≢◌, ℕ, ◌<◌, ◌≤◌, Bool, IsTrue}
-use Rattle.std.proofs.Common.{refl, sym, ap, ◌∙◌, subst, arith}
+use Rattle.std.specs.Prelude.{◌≡◌, ◌≢◌, ◌⊎◌, ℕ, ◌<◌, ◌≤◌, Bool, IsTrue}
+use Rattle.std.proofs.Common.{inl, inr, refl, sym, ap, ◌∙◌, subst, arith}
 use Rattle.disk_model.specs.declared.journal_file.JournalFile.{JournalFile}
 use Rattle.disk_model.specs.Images.{Image}
 use Rattle.disk_model.specs.Told.{JournalTold, TellsTheSame}
@@ -18,6 +18,11 @@ pub record HasTouched (tells : Bool) (file : JournalFile) (old new : JournalTold
   pub reads : AreSameBut file old.seen new.seen
   pub images : IsTrue tells → (t : ℕ) (image : Image) → t ≤ old.moment → new.left_since t image
       → (before : Image) × old.left_since t before × AreSameBut file before image
+  -- an image left since t was so before the calls, or it is left since any later time before them
+  pub since : (t s : ℕ) (image : Image) → t ≤ s → s ≤ old.moment → new.left_since t image
+      → old.left_since t image ⊎ new.left_since s image
+  pub keeps : (t : ℕ) (image : Image) → t ≤ old.moment → old.left_since t image
+      → new.left_since t image
 
 pub touched_self : (tells : Bool) (file : JournalFile) (told : JournalTold)
     → HasTouched tells file told told
@@ -25,6 +30,8 @@ touched_self tells file told = record {
   later = omega arith;
   reads = λ other differ. refl;
   images = λ sure t image le left. (image, left, λ other differ. refl);
+  since = λ t s image low le left. inl left;
+  keeps = λ t image le left. left;
 }
 
 pub touched_on : (tells : Bool) (file : JournalFile) (a b c : JournalTold)
@@ -36,6 +43,16 @@ touched_on tells file a b c one two = record {
       let mid = two.images told t image (omega (arith, le, one.later)) left in
       let first = one.images told t mid.0 le mid.1 in
       (first.0, first.1, λ other differ. mid.2 other differ ∙ first.2 other differ);
+  since = λ t s image low le left.
+      elim (two.since t s image low (omega (arith, le, one.later)) left) [
+        | inl mid ↦ elim (one.since t s image low le mid) [
+          | inl first ↦ inl first
+          | inr during ↦ inr (two.keeps s image (omega (arith, le, one.later)) during)
+        ]
+        | inr during ↦ inr during
+      ];
+  keeps = λ t image le left. two.keeps t image (omega (arith, le, one.later))
+      (one.keeps t image le left);
 }
 
 -- calls changed no file but this one, the first log that wasn't there: each one before it was
@@ -55,6 +72,8 @@ touched_same tells file a b same = record {
   later = omega (arith, same.time);
   reads = λ other differ. ap (λ (i : Image). i other) same.bytes;
   images = λ told t image le left. (image, (same.past t image).0 left, λ other differ. refl);
+  since = λ t s image low le left. inl ((same.past t image).0 left);
+  keeps = λ t image le left. (same.past t image).1 left;
 }
 
 -- a log that was begun stays the one that was changed

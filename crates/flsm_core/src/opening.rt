@@ -168,10 +168,12 @@ impl<J: Journal> State<J> {
     /// absent one, in order, and begins a new session with the next log. Each log is synced before
     /// it is read, also the absent one.
     ///
-    /// The session is 1 + the greatest in a header. `Journal` comes only where the journal failed;
-    /// `Damaged` only where a log isn't in its form, or its batches don't go on after those before;
-    /// `Profile` only where a log that is read has another profile than the one asked for; `Limit`
-    /// only where no session is left above that of a log that is read, told after `Profile`.
+    /// The session is 1 + the greatest in a header. `Journal` comes only where the journal failed.
+    /// The others but `Memory` tell of the first log that can't be taken in, after logs that all are
+    /// read: `Damaged` where it isn't in its form, at the first such place of it, or where a record
+    /// of it can't stand there, at the gate of the first one's group; `Profile` where it has another
+    /// profile than the one asked for; `Limit`, told after that, where no session is left above its
+    /// own.
     ///
     /// Where the images that a crash may leave differ, as after a session whose journal failed, and
     /// each stands for first batches of some, what is opened is what was read, and every crash after

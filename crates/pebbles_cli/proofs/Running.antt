@@ -3,6 +3,7 @@ use Rattle.std.proofs.Common.{◌≡◌, ℕ, ◌*◌, ◌^◌, ◌<◌, ◌≤�
 use Rattle.std.specs.Result.{is_err}
 use Rattle.std.specs.Option.{option_or, unwrap_or}
 use Rattle.std.proofs.lemmas.Bool.{true≢false}
+use Rattle.peb_base.specs.declared.profile.Profile.{Profile}
 use Rattle.peb_base.specs.Batches.{last_number}
 use Rattle.peb_base.specs.Faults.{Rose}
 use Rattle.disk_model.specs.declared.failed.Failed.{Failed}
@@ -12,12 +13,14 @@ use Rattle.script.specs.declared.cause.Cause.{Cause}
 use Rattle.script.specs.declared.cause.Cause.TheVariants as causes
 use Rattle.script.specs.Report.{report_text}
 use Rattle.disk_model.specs.Told.{JournalTold}
+use Rattle.flsm_core.specs.Range.{Range, AreIn, StartsIn}
+use Rattle.flsm_core.specs.Standing.{Leaves, IsLeftBy}
 use Rattle.flsm_core.specs.Touched.{HasTouched, HasTouchedNextLog, HasTouchedLog, next_log_on, touched_on}
 use Rattle.pebbles_cli.proofs.Handing.{tells_itself}
 use Rattle.disk_model.specs.declared.journal_file.JournalFile.{JournalFile}
 use Rattle.flsm_core.specs.declared.sync_fault.SyncFault.{SyncFault}
 use Rattle.flsm_core.specs.declared.sync_fault.SyncFault.TheVariants as syncs
-use Rattle.flsm_core.specs.Place.{Start, Place, opened, after_sync, Syncs}
+use Rattle.flsm_core.specs.Place.{Start, Place, all_of, opened, after_sync, Syncs}
 use Rattle.pebbles_cli.specs.declared.served.Served.{Served}
 use Rattle.peb_base.specs.declared.limit_kind.LimitKind.TheVariants as kinds
 use Rattle.disk_model.specs.Directories.{after_choice, after_opening}
@@ -29,7 +32,7 @@ use Rattle.pebbles_cli.specs.Names.{replies_name}
 use Rattle.pebbles_cli.specs.Causes.{Says, IsBeforeOpening, IsOpeningCause, OpeningCause, opening_cause, IsScript, JournalRose, LineCause, ReportCause, SinkCause, PlayCause, ScriptCause, RefusalCause, sink_cause, end_of}
 use Rattle.pebbles_cli.specs.Outside.{DevicesTold, SinksTold, Outside}
 use Rattle.pebbles_cli.specs.Tells.{TookMore, sync_cause}
-use Rattle.pebbles_cli.specs.Top.{Asked, Run, Went, IsTaken, IsServed, RepliesStay, Closed, IsClosed, IsDone, IsNext, Ran, PlaysSomehow, run_report}
+use Rattle.pebbles_cli.specs.Top.{Asked, Run, Went, IsTaken, IsServed, RepliesStay, Closed, IsClosed, IsDone, IsNext, Ran, AreInOrOn, PlaysIn, PlaysSomehow, run_report}
 use Rattle.pebbles_cli.proofs.Serving.{took_none, took_more, took_front, rose_later}
 use Rattle.pebbles_cli.proofs.Growing.{run_goes_on, run_start, sync_start}
 use Rattle.pebbles_cli.proofs.Numbering.{run_told, weaker}
@@ -245,6 +248,23 @@ touched_all tells file file' a b c d next log last =
     next_log_on tells file a a b d (tells_itself a) next
     (touched_on tells file b c d log.touched (subst (λ (f : JournalFile). HasTouched tells f c d) log.log last))
 
+-- calls went on from a log that was begun, and so did the closing
+pub touched_rest : (tells : Bool) (file file' : JournalFile) (b c d : JournalTold) → HasTouchedLog tells file file' b c → HasTouched tells file' c d → HasTouched tells file b d
+touched_rest tells file file' b c d log last = touched_on tells file b c d log.touched (subst (λ (f : JournalFile). HasTouched tells f c d) log.log last)
+
+-- each image since the call began lies in the range, or goes on from what was opened
+in_or_on : (tells : Bool) (file : JournalFile) (range : Range) (start : Start) (p : Place) (told opening new : JournalTold) → p.start ≡ start → StartsIn range told start
+    → start.moment ≤ opening.moment → AreIn range (opening.left_since told.moment) → HasTouched tells file opening new → IsLeftBy p new
+    → AreInOrOn range start (all_of p) (new.left_since told.moment)
+in_or_on tells file range start p told opening new is starts before inside touched left = λ image since. elim (touched.since told.moment start.moment image starts.began before since) [
+  | inl past ↦ inl (inside image past)
+  | inr later ↦
+      let honest : IsTrue p.start.honest = ap (λ (s : Start). s.honest) is ∙ starts.sure in
+      let now : new.left_since p.start.moment image = subst (λ (t : ℕ). new.left_since t image) (sym (ap (λ (s : Start). s.moment) is)) later in
+      let leaves : Leaves start.profile start.base (all_of p) image = subst (λ (s : Start). Leaves s.profile s.base (all_of p) image) is (left.ever honest image now) in
+      inr (subst (λ (f : Profile). Leaves f start.base (all_of p) image) starts.profile leaves)
+]
+
 pub ran_of : (start : Start) (asked : Asked) (old mid new : Outside) (cause : Cause) (session : ℕ) (commands : List Command) (name : List ℕ) (went : Went) (closed : Closed)
     → IsWithin asked.text 16777216 → Says asked.text commands → (IsTrue old.devices.tells → IsNext old.devices.journal.seen session)
     → last_number start.base < session * 2 ^ 40 → session ≤ 8388607
@@ -279,6 +299,17 @@ ran_of start asked old mid new cause session commands name went closed short say
       touched = (file, touched);
       tables = tables;
     }
+
+-- a run over a journal whose images lie in a range
+pub plays_in : (range : Range) (asked : Asked) (old new : Outside) (cause : Cause) (start : Start) (tells : Bool) (file : JournalFile) (opening : JournalTold) → Ran start asked old new cause
+    → StartsIn range old.devices.journal start → start.moment ≤ opening.moment → AreIn range (opening.left_since old.devices.journal.moment) → HasTouched tells file opening new.devices.journal
+    → IsTrue new.devices.tells → PlaysIn range asked old new cause
+plays_in range asked old new cause start tells file opening ran starts before inside touched told = inr (
+  start,
+  starts,
+  ran,
+  in_or_on tells file range start ran.closed.place old.devices.journal opening new.devices.journal ran.starts starts before inside touched (ran.closing.left told),
+)
 
 -- ---- a cause that is told after an opening
 

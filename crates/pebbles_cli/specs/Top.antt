@@ -17,8 +17,8 @@ use Rattle.flsm_core.specs.Place.{Start, Place, all_of, opened, start_at, after_
 use Rattle.flsm_core.specs.Logs.{Held, HoldsLogs, ReadsAs, Stands, greatest_session}
 use Rattle.flsm_core.specs.Opening.{OpensOn, HasWatched}
 use Rattle.flsm_core.specs.Touched.{HasTouchedNextLog}
-use Rattle.flsm_core.specs.Range.{Range, AreIn, StartsIn}
-use Rattle.flsm_core.specs.Standing.{IsLeftBy}
+use Rattle.flsm_core.specs.Range.{Range, IsIn, AreIn, StartsIn}
+use Rattle.flsm_core.specs.Standing.{Leaves, IsLeftBy}
 use Rattle.pebbles_cli.specs.declared.served.Served.{Served}
 use Rattle.pebbles_cli.specs.Causes.{Says, RefusalCause, ReportCause, end_of}
 use Rattle.pebbles_cli.specs.Names.{OpensAtMost, replies_label, replies_name}
@@ -202,13 +202,22 @@ pub record NotOpened (asked : Asked) (old new : Outside) (cause : Cause) : Type 
 abbrev pub Plays : Start → Asked → Outside → Outside → Cause → Type 0
 Plays start asked old new cause = NotOpened asked old new cause ⊎ Ran start asked old new cause
 
+-- each of these images lies in the range, or has first batches of these, with the opening's base
+abbrev pub AreInOrOn : Range → Start → Batches → (Image → Type 0) → Type 0
+AreInOrOn range start all images = (image : Image) → images image
+    → IsIn range image ⊎ Leaves range.profile start.base all image
+
 -- Over a journal whose images lie in a range: the script was run over a store that was opened on
--- what was read, or no store was opened and each image left since lies in the range.
+-- what was read, and each image left since lies in the range or goes on from there; or no store was
+-- opened and each image left since lies in the range.
 abbrev pub PlaysIn : Range → Asked → Outside → Outside → Cause → Type 0
 PlaysIn range asked old new cause =
     (NotOpened asked old new cause
     × AreIn range (new.devices.journal.left_since old.devices.journal.moment))
-    ⊎ ((start : Start) × StartsIn range old.devices.journal start × Ran start asked old new cause)
+    ⊎ ((start : Start) × StartsIn range old.devices.journal start
+    × (ran : Ran start asked old new cause)
+    × AreInOrOn range start (all_of ran.closed.place)
+    (new.devices.journal.left_since old.devices.journal.moment))
 
 -- the script was run over a store that was opened over some base, which was read where reads are
 -- told, or no store was opened

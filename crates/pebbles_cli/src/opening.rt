@@ -60,7 +60,9 @@ pub fn open_store<D: Devices>(
         → (start : Start) × StartsIn range (D.journal_told devices.old) start
         × IsAt D.J.Journal state (opened start)
         × IsNext (D.journal_told devices.old).seen (state_session state)
-        × (last_number start.base < state_session state * 2 ^ 40)) }
+        × (last_number start.base < state_session state * 2 ^ 40)
+        × AreIn range (D.J.left_since (state_journal state)
+        (D.journal_told devices.old).moment)) }
     ensures possible { IfOk result (λ state. state_session state ≤ 8388607) }
     ensures opened { OnOk result (D.directories devices.new
         ≡ after_opening (after_choice dir.now (D.directories devices.old))) }

@@ -6,7 +6,7 @@ use Rattle.flsm_core.specs.Logs.{ReadsAs}
 use Rattle.flsm_core.specs.Standing.{IsAt}
 use Rattle.flsm_core.specs.State.{state_session, state_journal, state_file}
 use Rattle.flsm_core.specs.Touched.{next_log_on, touched_self}
-use Rattle.pebbles_cli.proofs.Handing.{same_then, watched_same, touches_between, opens_same, starts_same, opens_read, next_of, starts_in_same, in_between, in_same}
+use Rattle.pebbles_cli.proofs.Handing.{same_then, tells_itself, watched_same, touches_between, opens_same, starts_same, opens_read, next_of, starts_in_same, in_between, in_same}
 use Rattle.pebbles_cli.proofs.opening.open_store.Goals as goal
 
 pub returns-in-Ok-open-clause-stands : goal.returns-in-Ok-open-clause-stands
@@ -57,6 +57,7 @@ returns-in-Ok-open-clause-within g c = λ told range asked on.
       within.stands,
       next_of old.seen mid.seen (state_session state) same.bytes (c.in-Ok-open.ensures.session told),
       c.in-Ok-open.ensures.fresh told within.start.base (subst (λ p. ReadsAs p within.start.base mid.seen) asked within.starts.reads),
+      (let new = told_by g.D.J.Journal (state_journal state) in in_between range old mid new new same (tells_itself new) within.since),
     )
 
 pub returns-in_default-clause-ever_within : goal.returns-in_default-clause-ever_within

@@ -8,7 +8,7 @@ use Rattle.pebbles_cli.specs.Outside.{outside, devices_told}
 use Rattle.pebbles_cli.specs.Tells.{sync_cause}
 use Rattle.pebbles_cli.specs.Causes.{end_of}
 use Rattle.pebbles_cli.proofs.Handing.{nothing_opened, tables_then, tells_itself, in_same}
-use Rattle.pebbles_cli.proofs.Running.{ran_of, touched_all, ran_after, opening_after}
+use Rattle.pebbles_cli.proofs.Running.{ran_of, touched_all, touched_rest, plays_in, ran_after, opening_after}
 use Rattle.pebbles_cli.proofs.run.run_commands.Goals as goal
 
 pub returns-in_default-clause-ran : goal.returns-in_default-clause-ran
@@ -147,15 +147,17 @@ returns-clause-within g c = λ told text short says range asked on.
     let start : Start = state.0 in
     let served = c.serve_client-served.ensures.served (opened start) state.2 in
     let closed = c.close_run.ensures.closed served.0.place served.1.0 in
-    inr (
-      start,
-      state.1,
-      ran_of start _ old mid new c.close_run.result (state_session c.in-Ok-open_store.state) c.args.commands.items c.as_str.result.now served.0 closed.0 short says (λ t. state.3) state.4 c.in-Ok-open_store.ensures.possible
-          (c.close_run.ensures.directories ∙ c.in-Ok-open_store.ensures.opened) (c.as_str.ensures.value ∙ c.in-Ok.ensures) served.1.2 closed.1.0
-          c.serve_client-served.ensures.report c.serve_client-served.ensures.never_falls
-          (closed.1.1 ∙ ap (λ (s : Served). end_of s.fault s.sink_failed (sync_cause closed.0.answer) closed.0.report) (sym served.1.1))
-          (state_file c.in-Ok-open_store.state) (touched_all g.D.J.Journal.tells (state_file c.in-Ok-open_store.state) (state_file c.serve_client-served.new.store) old.devices.journal
-          (told_by g.D.J.Journal (state_journal c.in-Ok-open_store.state)) (told_by g.D.J.Journal (state_journal c.serve_client-served.new.store)) new.devices.journal
-          c.in-Ok-open_store.ensures.next_log c.serve_client-served.ensures.touched c.close_run.ensures.touched)
-          (tables_then c.open_store.ensures.tables c.close_run.ensures.tables),
-    )
+    let opening = told_by g.D.J.Journal (state_journal c.in-Ok-open_store.state) in
+    plays_in range _ old new c.close_run.result start g.D.J.Journal.tells (state_file c.in-Ok-open_store.state) opening
+    (ran_of start _ old mid new c.close_run.result (state_session c.in-Ok-open_store.state) c.args.commands.items c.as_str.result.now served.0 closed.0 short says (λ t. state.3) state.4 c.in-Ok-open_store.ensures.possible
+    (c.close_run.ensures.directories ∙ c.in-Ok-open_store.ensures.opened) (c.as_str.ensures.value ∙ c.in-Ok.ensures) served.1.2 closed.1.0
+    c.serve_client-served.ensures.report c.serve_client-served.ensures.never_falls
+    (closed.1.1 ∙ ap (λ (s : Served). end_of s.fault s.sink_failed (sync_cause closed.0.answer) closed.0.report) (sym served.1.1))
+    (state_file c.in-Ok-open_store.state) (touched_all g.D.J.Journal.tells (state_file c.in-Ok-open_store.state) (state_file c.serve_client-served.new.store) old.devices.journal
+    (told_by g.D.J.Journal (state_journal c.in-Ok-open_store.state)) (told_by g.D.J.Journal (state_journal c.serve_client-served.new.store)) new.devices.journal
+    c.in-Ok-open_store.ensures.next_log c.serve_client-served.ensures.touched c.close_run.ensures.touched)
+    (tables_then c.open_store.ensures.tables c.close_run.ensures.tables))
+    state.1 state.2.began state.5
+    (touched_rest g.D.J.Journal.tells (state_file c.in-Ok-open_store.state) (state_file c.serve_client-served.new.store) opening
+    (told_by g.D.J.Journal (state_journal c.serve_client-served.new.store)) new.devices.journal c.serve_client-served.ensures.touched c.close_run.ensures.touched)
+    told
