@@ -1,4 +1,5 @@
-//! Which syncs and locks the devices over files ask for: no contract can say it.
+//! Which syncs and locks the devices over files ask for, and what they do with short reads and
+//! failed ones: no contract can say it.
 
 ghost use Rattle.std.specs.Prelude.{IsSome};
 
@@ -8,9 +9,10 @@ use crate::journal_folder::JournalFolder;
 use crate::real_journal::RealJournal;
 use crate::real_maker::RealMaker;
 use crate::real_port::RealPort;
+use crate::real_scripts::RealScripts;
 use crate::shared::Shared;
 use crate::watched::{Seen, Watched};
-use disk_model::{Failed, Journal, JournalFile, Maker, Port};
+use disk_model::{Failed, Journal, JournalFile, Maker, Port, Scripts};
 use std::alloc::{AllocError, Global};
 use std::io::ErrorKind;
 use std::rc::Rc;
@@ -18,6 +20,8 @@ use std::sync::{Arc, Wait};
 use std::test::Fail;
 
 const LOG: JournalFile = JournalFile::Log(1);
+
+const SECOND: JournalFile = JournalFile::Log(2);
 
 /// The number of table 1.1.
 const TABLE: u64 = (1 << 40) + 1;
@@ -28,10 +32,12 @@ enum Step {
     Size,
     Read,
     Write,
+    WriteSecond,
     Sync,
     Drop,
     FailSyncs(bool),
     FailFolderSyncs(bool),
+    FailReads(bool),
     Interrupt,
     MakeFolder,
     MakeFile,
@@ -48,11 +54,13 @@ enum First {
 }
 
 /// What eight steps told: which were Ok, and the syncs so far of the file, of its directory and of
-/// the directory's parent; and at the end whether the file is there, and the count of faults.
+/// the directory's parent; and at the end the syncs of the second file, whether the file is there,
+/// and the count of faults.
 #[derive(Clone, Copy)]
 struct Told {
     ok: [bool; 8],
     syncs: [(u8, u8, u8); 8],
+    second_syncs: u8,
     has_file: bool,
     faults: u64,
 }
@@ -87,6 +95,7 @@ fn happens(seen: &Seen, step: Step) -> bool {
     match step {
         Step::FailSyncs(fails) => seen.fails_syncs.set(fails),
         Step::FailFolderSyncs(fails) => seen.fails_folder_syncs.set(fails),
+        Step::FailReads(fails) => seen.fails_reads.set(fails),
         Step::Interrupt => seen.is_interrupted.set(true),
         Step::MakeFolder => seen.has_folder.set(true),
         Step::MakeFile => seen.has_file.set(true),
@@ -103,6 +112,7 @@ fn take<J: Journal>(journal: &mut J, seen: &Seen, step: Step) -> bool {
         Step::Size => journal.size(LOG).is_ok(),
         Step::Read => journal.read(LOG, 0, &mut out).is_ok(),
         Step::Write => journal.write(LOG, 0, b"a").is_ok(),
+        Step::WriteSecond => journal.write(SECOND, 0, b"a").is_ok(),
         Step::Sync => journal.sync(LOG).is_ok(),
         Step::Drop => journal.drop_file(LOG).is_ok(),
         other => happens(seen, other),
@@ -118,6 +128,7 @@ fn take_all<W: Wait + Clone + Drop>(
     let mut told = Told {
         ok: [false; 8],
         syncs: [(0, 0, 0); 8],
+        second_syncs: 0,
         has_file: false,
         faults: 0,
     };
@@ -127,6 +138,7 @@ fn take_all<W: Wait + Clone + Drop>(
             told.syncs[i] = seen.syncs();
         }
     }
+    told.second_syncs = seen.second_syncs.get();
     told.has_file = seen.has_file.get();
     told.faults = journal.faults.count;
     told
@@ -172,6 +184,7 @@ fn names_are_synced_with_files(rt: HostRuntime) -> Result<(), Fail> {
 fn names_of_an_earlier_run_are_synced(rt: HostRuntime) -> Result<(), Fail> {
     let first = steps_of(rt, rt.alloc(), First::Folder, &[Step::Sync, Step::Write])?;
     let second = steps_of(rt, rt.alloc(), First::File, &[Step::Sync, Step::Write])?;
+    let dropped = steps_of(rt, rt.alloc(), First::Folder, &[Step::Drop])?;
     assert_eq!(rt; first.syncs[0], (0, 1, 0), "an absent file");
     assert_eq!(rt;
         first.syncs[1],
@@ -179,6 +192,134 @@ fn names_of_an_earlier_run_are_synced(rt: HostRuntime) -> Result<(), Fail> {
         "the first file of a directory that was there"
     );
     assert_eq!(rt; second.syncs[1], (1, 1, 0), "a file that was there");
+    assert_eq!(rt; dropped.syncs[0], (0, 1, 0), "a drop of an absent file");
+    Ok(())
+}
+
+#[test]
+fn a_sync_is_of_the_file_that_is_named(rt: HostRuntime) -> Result<(), Fail> {
+    let steps = [Step::Write, Step::WriteSecond, Step::Sync];
+    let told = steps_of(rt, rt.alloc(), First::Nothing, &steps)?;
+    assert_eq!(rt; told.syncs[1], (0, 0, 1));
+    assert_eq!(rt; told.syncs[2], (1, 1, 1));
+    assert_eq!(rt; told.second_syncs, 0);
+    Ok(())
+}
+
+#[test]
+fn a_failed_read_or_size_is_a_fault(rt: HostRuntime) -> Result<(), Fail> {
+    let steps = [
+        Step::Write,
+        Step::FailReads(true),
+        Step::Read,
+        Step::Size,
+        Step::FailReads(false),
+        Step::Read,
+        Step::Size,
+    ];
+    let told = steps_of(rt, rt.alloc(), First::Nothing, &steps)?;
+    let opened = steps_of(rt, rt.alloc(), First::File, &steps[1..])?;
+    assert_eq!(rt;
+        told.ok,
+        [true, true, false, false, true, true, true, false]
+    );
+    assert_eq!(rt;
+        opened.ok,
+        [true, false, false, true, true, true, false, false]
+    );
+    assert_eq!(rt; (told.faults, opened.faults), (2, 2));
+    Ok(())
+}
+
+/// Writes over the middle of a log, and reads from its second byte on.
+fn write_and_read<J: Journal>(journal: &mut J) -> Result<(usize, [u8; 4]), Failed> {
+    let mut out = [0; 4];
+    journal.write(LOG, 0, b"abcdef")?;
+    journal.write(LOG, 2, b"xyz")?;
+    let count = journal.read(LOG, 1, &mut out)?;
+    Ok((count, out))
+}
+
+/// What was read of a log, where each read and write of the system gives and takes one byte.
+fn log_by_bytes<W: Wait + Clone + Drop>(rt: W, alloc: Global) -> Result<(usize, [u8; 4]), Fail> {
+    let seen = seen_at(alloc, First::Nothing)?;
+    let mut journal = journal_over(folder_over(rt, alloc, &seen)?);
+    let told = write_and_read(&mut journal);
+    drop(journal);
+    Ok(told?)
+}
+
+/// Makes a table of six bytes, and reads from its second byte on; then whether it is neither found
+/// nor read while reads fail.
+fn make_and_read<M: Maker, P: Port<File = M::File>>(
+    maker: &mut M,
+    port: &mut P,
+    seen: &Seen,
+) -> Result<(usize, [u8; 4], bool), Failed> {
+    let mut out = [0; 4];
+    maker.begin(TABLE)?;
+    maker.write(b"abcdef")?;
+    let table = maker.seal()?;
+    let count = port.read(&table, 1, &mut out)?;
+    seen.fails_reads.set(true);
+    let is_refused = port.find(TABLE).is_err() && port.read(&table, 1, &mut [0; 4]).is_err();
+    Ok((count, out, is_refused))
+}
+
+/// What that told of a table, where each read and write of the system gives and takes one byte, and
+/// the count of faults.
+fn table_by_bytes<W: Wait + Clone + Drop>(
+    rt: W,
+    alloc: Global,
+) -> Result<((usize, [u8; 4], bool), u64), Fail> {
+    let seen = seen_at(alloc, First::Nothing)?;
+    let folder = folder_over(rt, alloc, &seen)?;
+    let mut maker = RealMaker::new(folder.copy()?)?;
+    let mut port = RealPort::new(folder);
+    let told = make_and_read(&mut maker, &mut port, &seen);
+    let faults = port.faults.count;
+    drop(maker);
+    drop(port);
+    Ok((told?, faults))
+}
+
+/// Fetches a script from its second byte on; then whether it isn't fetched while reads fail.
+fn fetch<S: Scripts>(scripts: &mut S, seen: &Seen) -> Result<(usize, [u8; 4], bool), Failed> {
+    let mut out = [0; 4];
+    let count = scripts.fetch("script", 1, &mut out)?;
+    seen.fails_reads.set(true);
+    let is_refused = scripts.fetch("script", 1, &mut [0; 4]).is_err();
+    Ok((count, out, is_refused))
+}
+
+/// What that told of a script of three bytes, where each read of the system gives one byte.
+fn script_by_bytes<W: Wait + Clone + Drop>(
+    rt: W,
+    alloc: Global,
+) -> Result<(usize, [u8; 4], bool), Fail> {
+    let seen = seen_at(alloc, First::File)?;
+    for (at, byte) in [(0, b'a'), (1, b'b'), (2, b'c')] {
+        seen.put(at, byte)?;
+    }
+    let mut scripts = RealScripts::new(Watched {
+        rt,
+        alloc,
+        seen: seen.clone()?,
+    });
+    let told = fetch(&mut scripts, &seen);
+    drop(scripts);
+    Ok(told?)
+}
+
+#[test]
+fn short_reads_and_writes_are_gone_on_with(rt: HostRuntime) -> Result<(), Fail> {
+    let log = log_by_bytes(rt, rt.alloc())?;
+    let (table, faults) = table_by_bytes(rt, rt.alloc())?;
+    let script = script_by_bytes(rt, rt.alloc())?;
+    assert_eq!(rt; log, (4, *b"bxyz"));
+    assert_eq!(rt; table, (4, *b"bcde", true));
+    assert_eq!(rt; faults, 2);
+    assert_eq!(rt; script, (2, *b"bc\0\0", true));
     Ok(())
 }
 

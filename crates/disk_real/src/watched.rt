@@ -1,4 +1,5 @@
-//! A file system for tests, which counts the syncs that it is asked for and can fail them.
+//! A file system for tests, which counts the syncs that it is asked for and can fail them, gives
+//! and takes one byte a call, and can fail reads.
 
 use crate::keep_out::KeepOut;
 use std::alloc::{Allocator, Global};
@@ -10,17 +11,27 @@ use std::rc::Rc;
 use std::rt::Files;
 use std::sync::Wait;
 
-/// What a file system of one directory and one file in it has seen.
+/// A file holds fewer bytes than this.
+const ROOM: usize = 8;
+
+/// What a file system of one directory has seen, of `log-2` in it, and of one file that stands for
+/// every other name. The bytes of both are the same.
 #[derive(Drop)]
 pub struct Seen {
     pub has_folder: Cell<bool>,
     pub has_file: Cell<bool>,
+    pub has_second: Cell<bool>,
+    bytes: Cell<[u8; ROOM]>,
+    size: Cell<usize>,
     pub file_syncs: Cell<u8>,
+    pub second_syncs: Cell<u8>,
     pub folder_syncs: Cell<u8>,
     pub parent_syncs: Cell<u8>,
     pub fails_syncs: Cell<bool>,
     /// Whether syncs of the directory alone fail.
     pub fails_folder_syncs: Cell<bool>,
+    /// Whether reads, and looks at what is there, fail.
+    pub fails_reads: Cell<bool>,
     /// Whether another program is in the directory.
     pub is_taken: Cell<bool>,
     /// The error with which the file that is there is refused to be written, if it may only be read.
@@ -35,11 +46,16 @@ impl Seen {
         Seen {
             has_folder: Cell::new(false),
             has_file: Cell::new(false),
+            has_second: Cell::new(false),
+            bytes: Cell::new([0; ROOM]),
+            size: Cell::new(0),
             file_syncs: Cell::new(0),
+            second_syncs: Cell::new(0),
             folder_syncs: Cell::new(0),
             parent_syncs: Cell::new(0),
             fails_syncs: Cell::new(false),
             fails_folder_syncs: Cell::new(false),
+            fails_reads: Cell::new(false),
             is_taken: Cell::new(false),
             read_only: Cell::new(None),
             is_interrupted: Cell::new(false),
@@ -52,6 +68,43 @@ impl Seen {
             return Err(io::Error::from(ErrorKind::Interrupted));
         }
         Ok(())
+    }
+
+    /// Fails, where reads do.
+    fn refuse_reading(&self) -> io::Result<()> {
+        if self.fails_reads.get() {
+            return Err(io::Error::from(ErrorKind::Other));
+        }
+        Ok(())
+    }
+
+    /// The byte at this place, if the file reaches there.
+    fn byte(&self, at: usize) -> Option<u8> {
+        if at >= self.size.get() {
+            return None;
+        }
+        self.bytes.get().get(at).copied()
+    }
+
+    /// Puts a byte at this place.
+    pub fn put(&self, at: usize, byte: u8) -> io::Result<()> {
+        let mut bytes = self.bytes.get();
+        let Some(place) = bytes.get_mut(at) else {
+            return Err(io::Error::from(ErrorKind::StorageFull));
+        };
+        *place = byte;
+        self.bytes.set(bytes);
+        self.size.set(self.size.get().max(at + 1));
+        Ok(())
+    }
+
+    /// Whether what was asked for by this path is there.
+    fn has(&self, kind: Kind) -> &Cell<bool> {
+        match kind {
+            Kind::File => &self.has_file,
+            Kind::Second => &self.has_second,
+            Kind::Folder | Kind::Parent => &self.has_folder,
+        }
     }
 
     /// Fails, where the file may only be read.
@@ -94,15 +147,17 @@ impl<W: Wait> Wait for Watched<W> {}
 #[derive(Clone, Copy, PartialEq, Eq)]
 pub enum Kind {
     File,
+    Second,
     Folder,
     Parent,
 }
 
-/// The file, or a directory.
+/// A file, and the place in it where the next byte is read or written; or a directory.
 #[derive(Drop)]
 pub struct WatchedFile {
     seen: Rc<Seen>,
     kind: Kind,
+    at: u64,
 }
 
 impl KeepOut for WatchedFile {
@@ -135,9 +190,18 @@ impl Read for Listing {
 }
 
 impl Read for WatchedFile {
-    fn read(&mut self, _buf: &mut [u8]) -> io::Result<usize> {
+    fn read(&mut self, buf: &mut [u8]) -> io::Result<usize> {
         self.seen.interrupt()?;
-        Ok(0)
+        self.seen.refuse_reading()?;
+        let Some(byte) = self.seen.byte(self.at as usize) else {
+            return Ok(0);
+        };
+        let Some(first) = buf.first_mut() else {
+            return Ok(0);
+        };
+        *first = byte;
+        self.at = self.at.saturating_add(1);
+        Ok(1)
     }
 }
 
@@ -145,7 +209,12 @@ impl Write for WatchedFile {
     fn write(&mut self, buf: &[u8]) -> io::Result<usize> {
         self.seen.interrupt()?;
         self.seen.refuse_writing()?;
-        Ok(buf.len())
+        let Some(byte) = buf.first() else {
+            return Ok(0);
+        };
+        self.seen.put(self.at as usize, *byte)?;
+        self.at = self.at.saturating_add(1);
+        Ok(1)
     }
 
     fn flush(&mut self) -> io::Result<()> {
@@ -154,14 +223,18 @@ impl Write for WatchedFile {
 }
 
 impl Seek for WatchedFile {
-    fn seek(&mut self, _to: SeekFrom) -> io::Result<u64> {
-        Ok(0)
+    fn seek(&mut self, to: SeekFrom) -> io::Result<u64> {
+        if let SeekFrom::Start(at) = to {
+            self.at = at;
+        }
+        Ok(self.at)
     }
 }
 
 impl OpenFile for WatchedFile {
     fn metadata(&self) -> io::Result<Metadata> {
-        Ok(Metadata::of_file(0))
+        self.seen.refuse_reading()?;
+        Ok(Metadata::of_file(self.seen.size.get() as u64))
     }
 
     fn set_len(&self, _size: u64) -> io::Result<()> {
@@ -175,6 +248,7 @@ impl OpenFile for WatchedFile {
         }
         let count = match self.kind {
             Kind::File => &self.seen.file_syncs,
+            Kind::Second => &self.seen.second_syncs,
             Kind::Folder => &self.seen.folder_syncs,
             Kind::Parent => &self.seen.parent_syncs,
         };
@@ -204,6 +278,8 @@ fn kind_of(path: &str) -> Kind {
         Kind::Parent
     } else if path.ends_with("/.") {
         Kind::Folder
+    } else if path.ends_with("/log-2") {
+        Kind::Second
     } else {
         Kind::File
     }
@@ -218,15 +294,16 @@ impl<W> Files for Watched<W> {
         is_there(self.seen.has_folder.get())?;
         let kind = kind_of(path);
         if how.asks_create_new() {
-            self.seen.has_file.set(true);
+            self.seen.has(kind).set(true);
         }
-        is_there(kind != Kind::File || self.seen.has_file.get())?;
+        is_there(self.seen.has(kind).get())?;
         if how.asks_write() {
             self.seen.refuse_writing()?;
         }
         Ok(WatchedFile {
             seen: self.seen.clone()?,
             kind,
+            at: 0,
         })
     }
 
@@ -237,16 +314,18 @@ impl<W> Files for Watched<W> {
         Ok(())
     }
 
-    fn remove_file(&self, _path: &str) -> io::Result<()> {
-        is_there(self.seen.has_file.replace(false))
+    fn remove_file(&self, path: &str) -> io::Result<()> {
+        is_there(self.seen.has(kind_of(path)).replace(false))
     }
 
     fn open_dir(&self, _path: &str) -> io::Result<Listing> {
         Ok(Listing { is_read: false })
     }
 
-    fn metadata(&self, _path: &str) -> io::Result<Metadata> {
-        unsupported()
+    fn metadata(&self, path: &str) -> io::Result<Metadata> {
+        self.seen.refuse_reading()?;
+        is_there(self.seen.has(kind_of(path)).get())?;
+        Ok(Metadata::of_file(self.seen.size.get() as u64))
     }
 
     fn symlink_metadata(&self, _path: &str) -> io::Result<Metadata> {
