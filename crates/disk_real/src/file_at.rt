@@ -1,6 +1,7 @@
 //! Reads and writes at a place of an open file.
 
-ghost use Rattle.std.specs.Prelude.{◌≡◌, ◌≤◌, length, IfOk, OnOk};
+ghost use Rattle.std.specs.Prelude.{◌≡◌, ◌≤◌, ◌<◌, length, take, IfOk, OnOk};
+ghost use Rattle.std.specs.Io.KnownBytes.{Consumes, IsAtEnd, ReadConsumes};
 
 use std::io;
 use std::io::{ErrorKind, Read, Seek, SeekFrom, Write};
@@ -8,6 +9,7 @@ use std::io::{ErrorKind, Read, Seek, SeekFrom, Write};
 /// Reads once, and again where a signal came between.
 fn read_some<F: Read>(file: &mut F, out: &mut [u8]) -> io::Result<usize>
     ensures count { IfOk result (λ n. n ≤ length out.old) }
+    ensures bytes { ReadConsumes (F.remaining file.old) (F.remaining file.new) result out.new }
 {
     for _ in 0..u64::MAX {
         match file.read(out) {
@@ -31,20 +33,33 @@ fn write_some<F: Write>(file: &mut F, bytes: &[u8]) -> io::Result<usize>
     Err(io::Error::from(ErrorKind::Interrupted))
 }
 
-/// Reads from place `at` on until `out` is full or the file ends, and gives the count of bytes.
-pub fn read_at<F: Read + Seek>(file: &mut F, at: u64, out: &mut [u8]) -> io::Result<usize>
+/// Reads from the file's place on until `out` is full or the file ends, and gives the count of
+/// bytes. A read that fails is no end.
+fn read_on<F: Read>(file: &mut F, out: &mut [u8]) -> io::Result<usize>
     ensures count { IfOk result (λ n. n ≤ length out.old) }
+    ensures bytes { IfOk result (λ n.
+        Consumes (F.remaining file.old) (F.remaining file.new) (take n out.new)) }
+    ensures end { IfOk result (λ n. n < length out.old → IsAtEnd (F.remaining file.new)) }
 {
-    file.seek(SeekFrom::Start(at))?;
     let mut count = 0;
     while count < out.len() {
         let more = read_some(file, &mut out[count..])?;
         if more == 0 {
-            break;
+            return Ok(count);
         }
         count += more;
     }
     Ok(count)
+}
+
+/// Reads from place `at` on until `out` is full or the file ends, and gives the count of bytes. A
+/// read that fails is no end.
+pub fn read_at<F: Read + Seek>(file: &mut F, at: u64, out: &mut [u8]) -> io::Result<usize>
+    ensures count { IfOk result (λ n. n ≤ length out.old) }
+    ensures end { IfOk result (λ n. n < length out.old → IsAtEnd (F.remaining file.new)) }
+{
+    file.seek(SeekFrom::Start(at))?;
+    read_on(file, out)
 }
 
 /// Writes all bytes at the file's place, and raises `count` by those written, also where some
