@@ -14,6 +14,7 @@ use Rattle.merge_iter.specs.Heads.{comes_behind}
 use Rattle.merge_iter.specs.Parts.{AreParts}
 use Rattle.merge_iter.specs.StandLaws.{Among, stands_at}
 use Rattle.merge_iter.specs.Standing.{Merged, StandEach, IsHere, Stands}
+use Rattle.merge_iter.specs.Told.{NoneRefused, HasChosen}
 use Rattle.merge_iter.specs.Views.{shown_by, back_of, faults_of, Keeps}
 use Rattle.merge_iter.proofs.Stepping.{Way, never_nothing}
 
@@ -24,6 +25,8 @@ pub record WentTo {C : Type 0} (g : Ghosts C) (key : Bytes) (number : ℕ) (old 
   pub later : faults_of g old ≤ faults_of g new
   pub keeps : Keeps g old new
   pub refused : new.refused ≡ None
+  pub told : NoneRefused g old.inputs → NoneRefused g new.inputs
+  pub chosen : HasChosen g true old → HasChosen g true new
 
 -- the entry one place back comes before that at the place
 step_down : (key : Bytes) (number : ℕ) (es : List Entry) (n : ℕ) (e f : Entry) → AscendFrom key number es

@@ -6,6 +6,7 @@ mod Sending
 mod Walked
 mod Stepping
 mod Seeking
+mod Telling
 mod Falling
 mod Going
 mod Passing

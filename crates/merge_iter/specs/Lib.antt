@@ -8,6 +8,7 @@ pub mod Parts
 pub mod Seeing
 pub mod StandLaws
 pub mod Standing
+pub mod Told
 pub mod Totals
 pub mod Trials
 pub mod Views

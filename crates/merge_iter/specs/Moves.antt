@@ -50,22 +50,24 @@ pub record Remains {C : Type 0} (g : Ghosts C) (old new : C) : Type 0 where
   pub stands : (es : List Entry) (place : Option ℕ) → g.stands old es place
       → (now : Option ℕ) × g.stands new es now
 
--- it made the step
+-- it made the step, and refused nothing
 pub record Moved {C : Type 0} (g : Ghosts C) (step : Step) (old new : C) : Type 0 where
   pub goes : (es : List Entry) (place : Option ℕ) → g.stands old es place
       → g.stands new es (target step es place)
   pub steps : Steps g step old new
+  pub refused : g.refused new ≡ None
   pub remains : Remains g old new
 
--- it went to the first entry at or behind a key and number
+-- it went to the first entry at or behind a key and number, and refused nothing
 pub record Sought {C : Type 0} (g : Ghosts C) (key : Bytes) (number : ℕ)
     (old new : C) : Type 0 where
   pub goes : (es : List Entry) (place : Option ℕ) → g.stands old es place
       → g.stands new es (place_from key number es)
   pub behind : (e : Entry) → g.shows new ≡ Some e → comes_before e.key e.number key number ≡ false
+  pub refused : g.refused new ≡ None
   pub remains : Remains g old new
 
--- it refused and stands nowhere, with damage only where that stands, and
+-- it refused with this and stands nowhere, with damage only where that stands, and
 -- with a fault only where the device failed
 pub record Failed {C : Type 0} (g : Ghosts C) (e : ReadFault) (old new : C) : Type 0 where
   pub goes : (es : List Entry) (place : Option ℕ) → g.stands old es place
@@ -73,6 +75,7 @@ pub record Failed {C : Type 0} (g : Ghosts C) (e : ReadFault) (old new : C) : Ty
   pub counts : CountsFaults (g.faults old) (g.faults new) (Err e)
   pub damage : IfDamage {T = Unit {0}} (Err e) (g.damaged new)
   pub nothing : g.shows new ≡ None
+  pub refused : g.refused new ≡ Some e
   pub remains : Remains g old new
 
 -- it made the step, or refused

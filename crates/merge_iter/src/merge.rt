@@ -1,12 +1,13 @@
 //! Cursors merged into one.
 
-ghost use Rattle.std.specs.Prelude.{◌≡◌, ◌<◌, ◌≤◌, ◌++◌, ◌∷◌, [], ℕ, false, true, List, Option, Some, None, IfSome, IsOk, OnOk, OnErr, length, map, option_map};
+ghost use Rattle.std.specs.Prelude.{◌≡◌, ◌<◌, ◌≤◌, ◌++◌, ◌∷◌, [], ℕ, false, true, List, Option, Some, None, IfSome, IsOk, OnOk, OnErr, if◌then◌else◌, not, length, map, option_map};
 ghost use Rattle.peb_base.specs.Cursors.{place_from, first_place, last_place, next_place, previous_place, LeadsTo, CountsFaults, IfDamage, ComesBeforeNone, refusal};
 ghost use Rattle.peb_base.specs.Entries.{comes_before, entry_lt};
 ghost use Rattle.peb_base.specs.EntryRefs.{entry_of};
 ghost use Rattle.peb_base.specs.declared.entry.Entry.{Entry};
 ghost use Rattle.merge_iter.specs.Heads.{gives_way, IsChosen, comes_behind};
 ghost use Rattle.merge_iter.specs.Moves.{AllWent, Moved, Of};
+ghost use Rattle.merge_iter.specs.Told.{NoneRefused, OneRefused, Told, HasChosen};
 ghost use Rattle.merge_iter.specs.declared.step.Step.TheVariants as steps;
 
 use crate::choosing::chosen;
@@ -126,9 +127,12 @@ impl<C: Cursor> Merge<C> {
         ensures landed { Landed C.Cursor (Of (Moved C.Cursor step) only) is_back
             (merged_of self.old)
             (merged_of self.new) result }
+        ensures chosen { OnOk result (HasChosen C.Cursor is_back (merged_of self.new)) }
         // what it leaves
         ensures nothing { OnErr result (shown_by C.Cursor (merged_of self.new) ≡ None) }
         ensures refused { self.new.refused ≡ refusal result }
+        ensures told { Told C.Cursor only (merged_of self.old).inputs (merged_of self.new).inputs
+            result }
         // when it fails
         ensures counts { CountsFaults (faults_of C.Cursor (merged_of self.old))
             (faults_of C.Cursor (merged_of self.new)) result }
@@ -156,14 +160,21 @@ impl<C: Cursor> Merge<C> {
             → back_of C.Cursor (merged_of self.new) < back_of C.Cursor (merged_of self.old) }
         ensures stays { shown_by C.Cursor (merged_of self.old) ≡ None
             → IsOk result × (shown_by C.Cursor (merged_of self.new) ≡ None) }
+        ensures chosen { (e : Entry) → shown_by C.Cursor (merged_of self.old) ≡ Some e
+            → OnOk result (HasChosen C.Cursor true (merged_of self.new)) }
         // what it leaves
         ensures nothing { OnErr result (shown_by C.Cursor (merged_of self.new) ≡ None) }
         ensures refused { self.new.refused ≡ refusal result }
+        ensures told { (e : Entry) → shown_by C.Cursor (merged_of self.old) ≡ Some e
+            → Told C.Cursor (if not self.old.is_back then None else self.old.current)
+            (merged_of self.old).inputs (merged_of self.new).inputs result }
         // when it fails
         ensures counts { CountsFaults (faults_of C.Cursor (merged_of self.old))
             (faults_of C.Cursor (merged_of self.new)) result }
         ensures damage { IfDamage result (DamageIn C.Cursor (merged_of self.new)) }
         // what stays
+        ensures still { shown_by C.Cursor (merged_of self.old) ≡ None
+            → (merged_of self.new).inputs ≡ (merged_of self.old).inputs }
         ensures keeps { Keeps C.Cursor (merged_of self.old) (merged_of self.new) }
     {
         let Some(place) = self.current else {
@@ -192,9 +203,13 @@ impl<C: Cursor> Merge<C> {
             ≡ false }
         ensures fewer { back_of C.Cursor (merged_of self.new)
             ≤ back_of C.Cursor (merged_of self.old) }
+        ensures chosen { HasChosen C.Cursor true (merged_of self.old)
+            → OnOk result (HasChosen C.Cursor true (merged_of self.new)) }
         // what it leaves
         ensures nothing { OnErr result (shown_by C.Cursor (merged_of self.new) ≡ None) }
         ensures refused { self.new.refused ≡ refusal result }
+        ensures told { NoneRefused C.Cursor (merged_of self.old).inputs
+            → Told C.Cursor None (merged_of self.old).inputs (merged_of self.new).inputs result }
         // when it fails
         ensures counts { CountsFaults (faults_of C.Cursor (merged_of self.old))
             (faults_of C.Cursor (merged_of self.new)) result }
@@ -257,7 +272,27 @@ impl<C: Cursor> Cursor for Merge<C> {
     ghost kept_size = { λ a b x. size_stays C.Cursor.own C.kept_size (merged_of a)
         (merged_of b) x };
 
-    fn seek(&mut self, key: &[u8], number: Number) -> Result<(), ReadFault> {
+    /// Goes to the first entry of all at or behind a key and number, or to no place where all come before.
+    fn seek(&mut self, key: &[u8], number: Number) -> Result<(), ReadFault>
+        // what it gives
+        ensures goes { (es : List Entry) (place : Option ℕ)
+            → StandsIn C.Cursor (merged_of self.old) es place
+            → LeadsTo (StandsIn C.Cursor (merged_of self.new) es) (place_from key.now number es) result }
+        ensures behind { (e : Entry) → shown_by C.Cursor (merged_of self.new) ≡ Some e
+            → comes_before e.key e.number key.now number ≡ false }
+        ensures chosen { OnOk result (HasChosen C.Cursor false (merged_of self.new)) }
+        // what it leaves
+        ensures nothing { OnErr result (shown_by C.Cursor (merged_of self.new) ≡ None) }
+        ensures refused { (merged_of self.new).refused ≡ refusal result }
+        ensures told { Told C.Cursor None (merged_of self.old).inputs (merged_of self.new).inputs
+            result }
+        // when it fails
+        ensures counts { CountsFaults (faults_of C.Cursor (merged_of self.old))
+            (faults_of C.Cursor (merged_of self.new)) result }
+        ensures damage { IfDamage result (DamageIn C.Cursor (merged_of self.new)) }
+        // what stays
+        ensures keeps { Keeps C.Cursor (merged_of self.old) (merged_of self.new) }
+    {
         self.current = None;
         let moved = seek_all(&mut self.inputs, key, number);
         self.settle(moved, false)
@@ -271,9 +306,12 @@ impl<C: Cursor> Cursor for Merge<C> {
             → LeadsTo (StandsIn C.Cursor (merged_of self.new) es) (first_place es) result }
         ensures gives { OnOk result (WentThrough C.Cursor (merged_of self.new) []) }
         ensures walks { OnOk result (WalksIn C.Cursor (merged_of self.new) []) }
+        ensures chosen { OnOk result (HasChosen C.Cursor false (merged_of self.new)) }
         // what it leaves
         ensures nothing { OnErr result (shown_by C.Cursor (merged_of self.new) ≡ None) }
         ensures refused { (merged_of self.new).refused ≡ refusal result }
+        ensures told { Told C.Cursor None (merged_of self.old).inputs (merged_of self.new).inputs
+            result }
         // when it fails
         ensures counts { CountsFaults (faults_of C.Cursor (merged_of self.old))
             (faults_of C.Cursor (merged_of self.new)) result }
@@ -284,7 +322,25 @@ impl<C: Cursor> Cursor for Merge<C> {
         self.go(None, Step::First, false)
     }
 
-    fn last(&mut self) -> Result<(), ReadFault> {
+    /// Goes to the last entry of all, or to no place where there is none.
+    fn last(&mut self) -> Result<(), ReadFault>
+        // what it gives
+        ensures goes { (es : List Entry) (place : Option ℕ)
+            → StandsIn C.Cursor (merged_of self.old) es place
+            → LeadsTo (StandsIn C.Cursor (merged_of self.new) es) (last_place es) result }
+        ensures chosen { OnOk result (HasChosen C.Cursor true (merged_of self.new)) }
+        // what it leaves
+        ensures nothing { OnErr result (shown_by C.Cursor (merged_of self.new) ≡ None) }
+        ensures refused { (merged_of self.new).refused ≡ refusal result }
+        ensures told { Told C.Cursor None (merged_of self.old).inputs (merged_of self.new).inputs
+            result }
+        // when it fails
+        ensures counts { CountsFaults (faults_of C.Cursor (merged_of self.old))
+            (faults_of C.Cursor (merged_of self.new)) result }
+        ensures damage { IfDamage result (DamageIn C.Cursor (merged_of self.new)) }
+        // what stays
+        ensures keeps { Keeps C.Cursor (merged_of self.old) (merged_of self.new) }
+    {
         self.go(None, Step::Last, true)
     }
 
@@ -307,14 +363,21 @@ impl<C: Cursor> Cursor for Merge<C> {
             → ahead_of C.Cursor (merged_of self.new) < ahead_of C.Cursor (merged_of self.old) }
         ensures stays { shown_by C.Cursor (merged_of self.old) ≡ None
             → IsOk result × (shown_by C.Cursor (merged_of self.new) ≡ None) }
+        ensures chosen { (e : Entry) → shown_by C.Cursor (merged_of self.old) ≡ Some e
+            → OnOk result (HasChosen C.Cursor false (merged_of self.new)) }
         // what it leaves
         ensures nothing { OnErr result (shown_by C.Cursor (merged_of self.new) ≡ None) }
         ensures refused { (merged_of self.new).refused ≡ refusal result }
+        ensures told { (e : Entry) → shown_by C.Cursor (merged_of self.old) ≡ Some e
+            → Told C.Cursor (if (merged_of self.old).is_back then None else (merged_of self.old).current)
+            (merged_of self.old).inputs (merged_of self.new).inputs result }
         // when it fails
         ensures counts { CountsFaults (faults_of C.Cursor (merged_of self.old))
             (faults_of C.Cursor (merged_of self.new)) result }
         ensures damage { IfDamage result (DamageIn C.Cursor (merged_of self.new)) }
         // what stays
+        ensures still { shown_by C.Cursor (merged_of self.old) ≡ None
+            → (merged_of self.new).inputs ≡ (merged_of self.old).inputs }
         ensures keeps { Keeps C.Cursor (merged_of self.old) (merged_of self.new) }
     {
         let Some(place) = self.current else {
@@ -325,7 +388,37 @@ impl<C: Cursor> Cursor for Merge<C> {
         self.go(only, Step::Next, false)
     }
 
-    fn prev(&mut self) -> Result<(), ReadFault> {
+    /// Goes one entry back, or to no place before the first. At no place it answers Ok and stays there.
+    /// What it shows then doesn't come behind what it showed, over any device.
+    fn prev(&mut self) -> Result<(), ReadFault>
+        // what it gives
+        ensures goes { (es : List Entry) (place : Option ℕ)
+            → StandsIn C.Cursor (merged_of self.old) es place
+            → LeadsTo (StandsIn C.Cursor (merged_of self.new) es) (previous_place place) result }
+        ensures falls { (e f : Entry) → shown_by C.Cursor (merged_of self.old) ≡ Some e
+            → shown_by C.Cursor (merged_of self.new) ≡ Some f
+            → entry_lt e f ≡ false }
+        ensures fewer { (e : Entry) → shown_by C.Cursor (merged_of self.old) ≡ Some e
+            → back_of C.Cursor (merged_of self.new) < back_of C.Cursor (merged_of self.old) }
+        ensures stays { shown_by C.Cursor (merged_of self.old) ≡ None
+            → IsOk result × (shown_by C.Cursor (merged_of self.new) ≡ None) }
+        ensures chosen { (e : Entry) → shown_by C.Cursor (merged_of self.old) ≡ Some e
+            → OnOk result (HasChosen C.Cursor true (merged_of self.new)) }
+        // what it leaves
+        ensures nothing { OnErr result (shown_by C.Cursor (merged_of self.new) ≡ None) }
+        ensures refused { (merged_of self.new).refused ≡ refusal result }
+        ensures told { (e : Entry) → shown_by C.Cursor (merged_of self.old) ≡ Some e
+            → Told C.Cursor (if not (merged_of self.old).is_back then None else (merged_of self.old).current)
+            (merged_of self.old).inputs (merged_of self.new).inputs result }
+        // when it fails
+        ensures counts { CountsFaults (faults_of C.Cursor (merged_of self.old))
+            (faults_of C.Cursor (merged_of self.new)) result }
+        ensures damage { IfDamage result (DamageIn C.Cursor (merged_of self.new)) }
+        // what stays
+        ensures still { shown_by C.Cursor (merged_of self.old) ≡ None
+            → (merged_of self.new).inputs ≡ (merged_of self.old).inputs }
+        ensures keeps { Keeps C.Cursor (merged_of self.old) (merged_of self.new) }
+    {
         if self.is_back {
             return self.step_back();
         }

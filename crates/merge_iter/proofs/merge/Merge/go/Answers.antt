@@ -4,6 +4,7 @@ use Rattle.merge_iter.specs.Moves.{Moved, Of}
 use Rattle.merge_iter.specs.Views.{merged_of}
 use Rattle.merge_iter.proofs.Counting.{counts, damage, keeps_each, remain}
 use Rattle.merge_iter.proofs.Landing.{lands}
+use Rattle.merge_iter.proofs.Telling.{tells, has_chosen}
 use Rattle.merge_iter.proofs.merge.Merge.go.Goals as goal
 use Rattle.merge_iter.proofs.merge.Merge.go.Goals.{After-settle}
 
@@ -38,3 +39,14 @@ returns-clause-keeps g c =
     (remain g.C.Cursor g.met.C.Cursor.kept (Moved g.C.Cursor c.args.step) (λ a b m. m.remains)
     c.args.only c.args.self.now.inputs.items c.settle.new.self.inputs.items c.settle.result
     (landed g c).went)
+
+pub returns-clause-chosen : goal.returns-clause-chosen
+returns-clause-chosen g c =
+    has_chosen g.C.Cursor (Of (Moved g.C.Cursor c.args.step) c.args.only) c.args.is_back
+    (merged_of c.args.self.now) (merged_of c.settle.new.self) c.settle.result (landed g c)
+
+pub returns-clause-told : goal.returns-clause-told
+returns-clause-told g c =
+    tells g.C.Cursor (Moved g.C.Cursor c.args.step) (λ a b m. m.refused)
+    c.args.only c.args.self.now.inputs.items c.settle.new.self.inputs.items c.settle.result
+    (landed g c).went

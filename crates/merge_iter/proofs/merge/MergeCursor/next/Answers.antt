@@ -51,3 +51,8 @@ pub returns-clause-stays : goal.returns-clause-stays
 returns-clause-stays g c = λ none.
     absurd (never_nothing g.C.Cursor (merged_of c.args.self.now) (merged_of c.go.new.self)
     c.args.self.now.chosen c.in-Some.place c.in-Some.is none)
+
+pub returns-clause-still : goal.returns-clause-still
+returns-clause-still g c = λ none.
+    absurd (never_nothing g.C.Cursor (merged_of c.args.self.now) (merged_of c.go.new.self)
+    c.args.self.now.chosen c.in-Some.place c.in-Some.is none)

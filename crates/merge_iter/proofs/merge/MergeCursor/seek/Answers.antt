@@ -7,6 +7,7 @@ use Rattle.merge_iter.proofs.Counting.{counts, damage, keeps_each, remain}
 use Rattle.merge_iter.proofs.Landing.{lands, leads}
 use Rattle.merge_iter.proofs.Leading.{seek_stands}
 use Rattle.merge_iter.proofs.Seeking.{shows_behind}
+use Rattle.merge_iter.proofs.Telling.{tells, has_chosen}
 use Rattle.merge_iter.proofs.merge.MergeCursor.seek.Goals as goal
 use Rattle.merge_iter.proofs.merge.MergeCursor.seek.Goals.{After-settle}
 
@@ -53,3 +54,14 @@ returns-clause-keeps g c =
     (remain g.C.Cursor g.met.C.Cursor.kept (Sought g.C.Cursor c.args.key.now c.args.number)
     (λ a b m. m.remains) None c.args.self.now.inputs.items c.settle.new.self.inputs.items c.settle.result
     (landed g c).went)
+
+pub returns-clause-chosen : goal.returns-clause-chosen
+returns-clause-chosen g c =
+    has_chosen g.C.Cursor (Of (Sought g.C.Cursor c.args.key.now c.args.number) None) false
+    (merged_of c.args.self.now) (merged_of c.settle.new.self) c.settle.result (landed g c)
+
+pub returns-clause-told : goal.returns-clause-told
+returns-clause-told g c =
+    tells g.C.Cursor (Sought g.C.Cursor c.args.key.now c.args.number) (λ a b m. m.refused)
+    None c.args.self.now.inputs.items c.settle.new.self.inputs.items c.settle.result
+    (landed g c).went
