@@ -1,5 +1,5 @@
 -- A view that goes on over what isn't seen.
-use Rattle.std.proofs.Common.{◌≡◌, ℕ, ◌≤◌, true, false, List, Option, sym, subst, arith}
+use Rattle.std.proofs.Common.{◌≡◌, ℕ, ◌≤◌, true, false, List, Option, None, sym, subst, arith}
 use Rattle.peb_base.specs.Cursors.{next_place, place_in}
 use Rattle.peb_base.specs.declared.cursor.Cursor.{Ghosts}
 use Rattle.peb_base.specs.declared.entry.Entry.{Entry}
@@ -16,6 +16,7 @@ pub record WentOnTo {C : Type 0} (g : Ghosts C) (old new : Visible C) : Type 0 w
   pub later : g.faults old.inner ≤ g.faults new.inner
   pub keeps : g.keeps old.inner new.inner
   pub number : new.number ≡ old.number
+  pub refused : g.refused new.inner ≡ None
 
 pub went_further : {C : Type 0} (g : Ghosts C) → Among g
     → ((a b c : C) → g.keeps a b → g.keeps b c → g.keeps a c) → (old l k : Visible C) (n : C)
@@ -23,12 +24,12 @@ pub went_further : {C : Type 0} (g : Ghosts C) → Among g
     → is_hidden l.number l.key (g.shows l.inner) ≡ true
     → ((es : List Entry) (place : Option ℕ) → g.stands k.inner es place
     → g.stands n es (next_place es place)) → g.faults k.inner ≤ g.faults n → g.keeps k.inner n
-    → WentOnTo g old (record k { inner = n })
+    → g.refused n ≡ None → WentOnTo g old (record k { inner = n })
 went_further {C} g among kept_on old l k n w is hidden =
     subst (λ (v : Visible C). ((es : List Entry) (place : Option ℕ) → g.stands v.inner es place
     → g.stands n es (next_place es place)) → g.faults v.inner ≤ g.faults n → g.keeps v.inner n
-    → WentOnTo g old (record v { inner = n })) (sym is)
-    (λ goes later keeps. record {
+    → g.refused n ≡ None → WentOnTo g old (record v { inner = n })) (sym is)
+    (λ goes later keeps refused. record {
       goes = λ es at p s ahead.
           let r = w.goes es at p s ahead in
           let shown = (among l.inner es r.0 r.1).shows in (
@@ -44,6 +45,7 @@ went_further {C} g among kept_on old l k n w is hidden =
       later = (let a = w.later in omega (arith, a, later));
       keeps = kept_on old.inner l.inner n w.keeps keeps;
       number = w.number;
+      refused = refused;
     })
 
 -- where it stops, it sees

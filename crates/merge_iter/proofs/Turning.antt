@@ -51,6 +51,7 @@ pub record WentBackTo {C : Type 0} (g : Ghosts C) (old new : Visible C) (found :
   pub later : g.faults old.inner ≤ g.faults new.inner
   pub keeps : g.keeps old.inner new.inner
   pub number : new.number ≡ old.number
+  pub refused : g.refused new.inner ≡ None
 
 pub went_back : {C : Type 0} (g : Ghosts C) → Among g
     → ((a b c : C) → g.keeps a b → g.keeps b c → g.keeps a c) → (old l k : Visible C) (n : C)
@@ -59,12 +60,12 @@ pub went_back : {C : Type 0} (g : Ghosts C) → Among g
     → looks_back l.number l.key was (g.shows l.inner) ≡ true
     → ((es : List Entry) (place : Option ℕ) → g.stands k.inner es place
     → g.stands n es (previous_place place)) → g.faults k.inner ≤ g.faults n → g.keeps k.inner n
-    → WentBackTo g old (record k { inner = n }) now
+    → g.refused n ≡ None → WentBackTo g old (record k { inner = n }) now
 went_back {C} g among kept_on old l k n was now w found is looks =
     subst (λ (v : Visible C). ((es : List Entry) (place : Option ℕ) → g.stands v.inner es place
     → g.stands n es (previous_place place)) → g.faults v.inner ≤ g.faults n → g.keeps v.inner n
-    → WentBackTo g old (record v { inner = n }) now) (sym is)
-    (λ goes later keeps. record {
+    → g.refused n ≡ None → WentBackTo g old (record v { inner = n }) now) (sym is)
+    (λ goes later keeps refused. record {
       goes = λ es r s.
           let at = w.goes es r s in
           step goes es (seen old.number [] (take r es)) at.0 at.1 at.2
@@ -72,6 +73,7 @@ went_back {C} g among kept_on old l k n was now w found is looks =
       later = (let a = w.later in omega (arith, a, later));
       keeps = kept_on old.inner l.inner n w.keeps keeps;
       number = w.number;
+      refused = refused;
     })
   where
     step : ((es : List Entry) (place : Option ℕ) → g.stands l.inner es place

@@ -1,7 +1,7 @@
 //! What a number sees of a cursor's entries.
 
 ghost use Rattle.std.specs.Prelude.{◌≡◌, ◌<◌, ◌≤◌, [], ℕ, false, true, not, List, Option, Some, None, IfSome, OnErr, length, option_map, take};
-ghost use Rattle.peb_base.specs.Cursors.{place_in, place_from, first_place, last_place, next_place, previous_place, LeadsTo, CountsFaults, IfDamage};
+ghost use Rattle.peb_base.specs.Cursors.{place_in, place_from, first_place, last_place, next_place, previous_place, LeadsTo, CountsFaults, IfDamage, refusal};
 ghost use Rattle.peb_base.specs.EntryRefs.{entry_of};
 ghost use Rattle.peb_base.specs.declared.entry.Entry.{Entry};
 ghost use Rattle.merge_iter.specs.Seeing.{visible, Sees, put_at_most, puts, is_passed, is_hidden, key_after, key_of, IsAhead, IsBack, is_found, looks_back, seen};
@@ -140,6 +140,7 @@ impl<C: Cursor> Visible<C> {
 
     /// Goes on to the first entry at which a walk on stops, which may be the one where it stands.
     fn settle(&mut self) -> Result<(), ReadFault>
+        requires { C.refused self.old.inner ≡ None }
         // what it gives
         ensures goes { (es : List Entry) (at : Option ℕ) (p : ℕ) → C.stands self.old.inner es at
             → IsAhead self.old.number self.old.key es at p
@@ -147,6 +148,7 @@ impl<C: Cursor> Visible<C> {
             (place_in (visible self.old.number es) p) result }
         // what it leaves
         ensures nothing { OnErr result (C.shows self.new.inner ≡ None) }
+        ensures refused { C.refused self.new.inner ≡ refusal result }
         // when it fails
         ensures counts { CountsFaults (C.faults self.old.inner) (C.faults self.new.inner) result }
         ensures damage { IfDamage result (C.damaged self.new.inner) }
@@ -171,6 +173,7 @@ impl<C: Cursor> Visible<C> {
             (visible (number_of_view self.old) es)) result }
         // what it leaves
         ensures nothing { OnErr result (seen_by C.Cursor self.new ≡ None) }
+        ensures refused { C.refused (inner_of self.new) ≡ refusal result }
         // when it fails
         ensures counts { CountsFaults (C.faults (inner_of self.old))
             (C.faults (inner_of self.new)) result }
@@ -192,6 +195,7 @@ impl<C: Cursor> Visible<C> {
             (first_place (visible (number_of_view self.old) es)) result }
         // what it leaves
         ensures nothing { OnErr result (seen_by C.Cursor self.new ≡ None) }
+        ensures refused { C.refused (inner_of self.new) ≡ refusal result }
         // when it fails
         ensures counts { CountsFaults (C.faults (inner_of self.old))
             (C.faults (inner_of self.new)) result }
@@ -213,6 +217,7 @@ impl<C: Cursor> Visible<C> {
             (next_place (visible (number_of_view self.old) es) place) result }
         // what it leaves
         ensures nothing { OnErr result (seen_by C.Cursor self.new ≡ None) }
+        ensures refused { C.refused (inner_of self.new) ≡ refusal result }
         // when it fails
         ensures counts { CountsFaults (C.faults (inner_of self.old))
             (C.faults (inner_of self.new)) result }
@@ -251,6 +256,7 @@ impl<C: Cursor> Visible<C> {
 
     /// Turns to the put that a walk back has found, one entry behind where it stands.
     fn turn(&mut self, found: bool) -> Result<(), ReadFault>
+        requires { C.refused self.old.inner ≡ None }
         // what it gives
         ensures goes { (es : List Entry) (r : ℕ) (left : List Entry)
             → C.stands self.old.inner es (previous_place (Some r))
@@ -259,6 +265,7 @@ impl<C: Cursor> Visible<C> {
             → LeadsTo (SeesIn C.Cursor self.new es) (previous_place (Some (length left))) result }
         // what it leaves
         ensures nothing { OnErr result (C.shows self.new.inner ≡ None) }
+        ensures refused { C.refused self.new.inner ≡ refusal result }
         // when it fails
         ensures counts { CountsFaults (C.faults self.old.inner) (C.faults self.new.inner) result }
         ensures damage { IfDamage result (C.damaged self.new.inner) }
@@ -276,6 +283,7 @@ impl<C: Cursor> Visible<C> {
 
     /// Goes back to the last visible entry at or before where it stands, or to no place.
     fn settle_back(&mut self) -> Result<(), ReadFault>
+        requires { C.refused self.old.inner ≡ None }
         // what it gives
         ensures goes { (es : List Entry) (r : ℕ)
             → C.stands self.old.inner es (previous_place (Some r))
@@ -283,6 +291,7 @@ impl<C: Cursor> Visible<C> {
             (previous_place (Some (length (seen self.old.number [] (take r es))))) result }
         // what it leaves
         ensures nothing { OnErr result (C.shows self.new.inner ≡ None) }
+        ensures refused { C.refused self.new.inner ≡ refusal result }
         // when it fails
         ensures counts { CountsFaults (C.faults self.old.inner) (C.faults self.new.inner) result }
         ensures damage { IfDamage result (C.damaged self.new.inner) }
@@ -307,6 +316,7 @@ impl<C: Cursor> Visible<C> {
             (last_place (visible (number_of_view self.old) es)) result }
         // what it leaves
         ensures nothing { OnErr result (seen_by C.Cursor self.new ≡ None) }
+        ensures refused { C.refused (inner_of self.new) ≡ refusal result }
         // when it fails
         ensures counts { CountsFaults (C.faults (inner_of self.old))
             (C.faults (inner_of self.new)) result }
@@ -326,6 +336,7 @@ impl<C: Cursor> Visible<C> {
             → LeadsTo (SeesIn C.Cursor self.new es) (previous_place place) result }
         // what it leaves
         ensures nothing { OnErr result (seen_by C.Cursor self.new ≡ None) }
+        ensures refused { C.refused (inner_of self.new) ≡ refusal result }
         // when it fails
         ensures counts { CountsFaults (C.faults (inner_of self.old))
             (C.faults (inner_of self.new)) result }

@@ -7,7 +7,7 @@ loop-self-preserved g c =
     went_further g.C.Cursor g.met.C.Cursor.among g.met.C.Cursor.kept_on c.args.self.now c.loop-self.self
     c.keep_passed.new.self c.next.new.self c.loop-self.invariant c.keep_passed.ensures
     (sym c.hides.ensures ∙ c.loop-self-test.true) c.in_ok-next.ensures.goes
-    c.next.ensures.counts.never_falls c.next.ensures.keeps
+    c.next.ensures.counts.never_falls c.next.ensures.keeps c.in_ok-next.ensures.refused
 
 pub returns-clause-goes : goal.returns-clause-goes
 returns-clause-goes g c =

@@ -8,7 +8,7 @@ loop-found-preserved g c =
     went_back g.C.Cursor g.met.C.Cursor.among g.met.C.Cursor.kept_on c.args.self.now c.loop-found.self
     c.keep_key.new.self c.prev.new.self c.loop-found.found c.finds-found.result c.loop-found.invariant
     c.finds-found.ensures c.keep_key.ensures (sym c.goes_back.ensures ∙ c.loop-found-test.true)
-    c.in_ok-prev.ensures.goes c.prev.ensures.counts.never_falls c.prev.ensures.keeps
+    c.in_ok-prev.ensures.goes c.prev.ensures.counts.never_falls c.prev.ensures.keeps c.in_ok-prev.ensures.refused
 
 pub returns-clause-goes : goal.returns-clause-goes
 returns-clause-goes g c = λ es r s.
