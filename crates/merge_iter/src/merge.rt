@@ -5,13 +5,15 @@ ghost use Rattle.peb_base.specs.Cursors.{place_from, first_place, last_place, ne
 ghost use Rattle.peb_base.specs.Entries.{comes_before, entry_lt};
 ghost use Rattle.peb_base.specs.EntryRefs.{entry_of};
 ghost use Rattle.peb_base.specs.declared.entry.Entry.{Entry};
+ghost use Rattle.peb_base.specs.declared.read_fault.ReadFault.{ReadFault};
 ghost use Rattle.merge_iter.specs.Heads.{gives_way, IsChosen, comes_behind};
 ghost use Rattle.merge_iter.specs.Moves.{AllWent, Moved, Of};
+ghost use Rattle.merge_iter.specs.Told as told;
 ghost use Rattle.merge_iter.specs.Told.{NoneRefused, OneRefused, Told, HasChosen};
 ghost use Rattle.merge_iter.specs.declared.step.Step.TheVariants as steps;
 
 use crate::choosing::chosen;
-use crate::moving::{moved_input, seek_all, send};
+use crate::moving::{first_refusal, moved_input, seek_all, send};
 use crate::step::Step;
 use peb_base::{Cursor, EntryRef, KeyBuf, Number, ReadFault, is_before};
 
@@ -57,18 +59,34 @@ impl<C: Cursor> Merge<C> {
     }
 
     /// Takes cursors in that stand where a seek of a key and number leaves them, and stands where its
-    /// own seek of them would leave it. It moves none of them.
+    /// own seek of them would leave it. Where that refused on some of them, it has refused as the first
+    /// of these did, and stands at no place. It moves none of them.
     pub fn at_places(inputs: Vec<C>) -> Merge<C>
+        // what it gives
         ensures stands { (es : List Entry) (part : ℕ → List Entry) (key : List ℕ) (number : ℕ)
+            → (merged_of result).refused ≡ None
             → AreParts es (length inputs.items) part
             → StandEach C.stands inputs.items part (λ k. place_from key number (part k))
             → StandsIn C.Cursor (merged_of result) es (place_from key number es) }
-        ensures chosen { IsChosen false (heads_of C.Cursor inputs.items)
-            (merged_of result).current }
+        ensures chosen { (merged_of result).refused ≡ None
+            → IsChosen false (heads_of C.Cursor inputs.items) (merged_of result).current }
+        // what it leaves
+        ensures refused { (merged_of result).refused ≡ told.first_refusal C.Cursor inputs.items }
+        ensures quiet { NoneRefused C.Cursor inputs.items → (merged_of result).refused ≡ None }
+        ensures nothing { (e : ReadFault) → (merged_of result).refused ≡ Some e
+            → shown_by C.Cursor (merged_of result) ≡ None }
+        // what stays
         ensures inputs { (merged_of result).inputs ≡ inputs.items }
         ensures direction { (merged_of result).is_back ≡ false }
-        ensures refused { (merged_of result).refused ≡ None }
     {
+        if let Some(fault) = first_refusal(&inputs) {
+            return Merge {
+                inputs,
+                current: None,
+                is_back: false,
+                refused: Some(fault),
+            };
+        }
         let current = chosen(&inputs, false);
         Merge {
             inputs,

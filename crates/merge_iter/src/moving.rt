@@ -2,6 +2,7 @@
 
 ghost use Rattle.std.specs.Prelude.{◌≡◌, ◌<◌, Option, None, Some, IfSome, length, if◌then◌else◌};
 ghost use Rattle.merge_iter.specs.Moves.{Went, AllWent, Moved, Searched, Sought, Each, Of};
+ghost use Rattle.merge_iter.specs.Told as told;
 ghost use Rattle.merge_iter.specs.declared.step.Step.TheVariants as steps;
 
 use crate::step::Step;
@@ -64,6 +65,18 @@ pub fn send<C: Cursor>(
         return send_all(inputs, step);
     };
     go(&mut inputs[place], step)
+}
+
+/// The first refusal among the cursors' last moves.
+pub fn first_refusal<C: Cursor>(inputs: &[C]) -> Option<ReadFault>
+    ensures { result ≡ told.first_refusal C.Cursor inputs.now }
+{
+    for i in 0..inputs.len() {
+        if let Some(fault) = inputs[i].fault() {
+            return Some(fault);
+        }
+    }
+    None
 }
 
 /// Seeks a key and number with one cursor.

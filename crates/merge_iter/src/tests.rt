@@ -146,6 +146,111 @@ fn a_refusal_of_an_input_is_told_and_leaves_no_place(rt: HostRuntime) -> Result<
     Ok(())
 }
 
+const DAMAGED: ReadFault = ReadFault::Damaged { table: 7, at: 4096 };
+
+/// Puts to even keys, and to odd ones by a cursor that finds damage after so many moves, as one.
+fn with_damage(alloc: Global, moves: u64) -> Result<Merge<TrialCursor>, Fail>
+    ensures { IfOk result (λ merge. ⟦<Merge<TrialCursor> as Cursor>⟧.shows merge ≡ None) }
+{
+    let even = puts(alloc, &[0, 2, 4, 8])?;
+    let mut odd = puts(alloc, &[1, 3, 5])?;
+    odd.refuse_after(moves, DAMAGED);
+    both(alloc, even, odd)
+}
+
+#[test]
+fn damage_of_an_input_is_told_by_every_move(rt: HostRuntime) -> Result<(), Fail> {
+    let alloc = rt.alloc();
+    let number = Number::new(1, 1);
+    let mut merge = with_damage(alloc, 0)?;
+    assert_eq!(rt; merge.seek(&[0, 2], number), Err(DAMAGED));
+    assert_eq!(rt; merge.fault(), Some(DAMAGED));
+    assert_eq!(rt; stands(&merge), None);
+    let mut merge = with_damage(alloc, 0)?;
+    assert_eq!(rt; merge.first(), Err(DAMAGED));
+    assert_eq!(rt; stands(&merge), None);
+    let mut merge = with_damage(alloc, 0)?;
+    assert_eq!(rt; merge.last(), Err(DAMAGED));
+    assert_eq!(rt; stands(&merge), None);
+    Ok(())
+}
+
+#[test]
+fn damage_of_an_input_is_told_where_a_walk_turns(rt: HostRuntime) -> Result<(), Fail> {
+    let alloc = rt.alloc();
+    let number = Number::new(1, 1);
+    let mut merge = with_damage(alloc, 1)?;
+    merge.seek(&[0, 2], number)?;
+    assert_eq!(rt; merge.prev(), Err(DAMAGED));
+    assert_eq!(rt; merge.fault(), Some(DAMAGED));
+    assert_eq!(rt; stands(&merge), None);
+    // from no place to its last entry
+    let mut merge = with_damage(alloc, 1)?;
+    merge.seek(&[0, 6], number)?;
+    assert_eq!(rt; stands(&merge), Some((8, 0)));
+    assert_eq!(rt; merge.prev(), Err(DAMAGED));
+    assert_eq!(rt; stands(&merge), None);
+    // from no place to its first entry
+    let mut merge = with_damage(alloc, 4)?;
+    merge.last()?;
+    for _ in 0..6 {
+        merge.prev()?;
+    }
+    assert_eq!(rt; stands(&merge), Some((0, 0)));
+    assert_eq!(rt; merge.next(), Err(DAMAGED));
+    assert_eq!(rt; stands(&merge), None);
+    Ok(())
+}
+
+#[test]
+fn damage_of_an_input_is_told_by_a_view(rt: HostRuntime) -> Result<(), Fail> {
+    let alloc = rt.alloc();
+    let number = Number::new(1, 1);
+    let mut view = Visible::new(with_damage(alloc, 0)?, number);
+    assert_eq!(rt; view.seek(&[0, 2]), Err(DAMAGED));
+    assert_eq!(rt; view.at().is_none(), true);
+    let mut view = Visible::new(with_damage(alloc, 0)?, number);
+    assert_eq!(rt; view.first(), Err(DAMAGED));
+    let mut view = Visible::new(with_damage(alloc, 0)?, number);
+    assert_eq!(rt; view.last(), Err(DAMAGED));
+    let mut view = Visible::new(with_damage(alloc, 1)?, number);
+    view.first()?;
+    view.next()?;
+    assert_eq!(rt; view.next(), Err(DAMAGED));
+    assert_eq!(rt; view.at().is_none(), true);
+    let mut view = Visible::new(with_damage(alloc, 1)?, number);
+    view.seek(&[0, 4])?;
+    assert_eq!(rt; view.prev(), Err(DAMAGED));
+    assert_eq!(rt; view.at().is_none(), true);
+    assert_eq!(rt; view.close().fault(), Some(DAMAGED));
+    Ok(())
+}
+
+#[test]
+fn an_input_that_refused_its_seek_is_merged_as_refused(rt: HostRuntime) -> Result<(), Fail> {
+    let alloc = rt.alloc();
+    let number = Number::new(1, 1);
+    let mut even = puts(alloc, &[0, 2, 4])?;
+    even.seek(&[0, 2], number)?;
+    let mut odd = puts(alloc, &[1, 3, 5])?;
+    odd.refuse_after(0, DAMAGED);
+    assert_eq!(rt; odd.seek(&[0, 2], number), Err(DAMAGED));
+    let mut inputs = Vec::new(alloc);
+    inputs.push(even)?;
+    inputs.push(odd)?;
+    let merge = Merge::at_places(inputs);
+    assert_eq!(rt; merge.fault(), Some(DAMAGED));
+    assert_eq!(rt; stands(&merge), None);
+    let (view, answer) = Visible::resume(merge, &[0, 2], number);
+    assert_eq!(rt; answer, Err(DAMAGED));
+    assert_eq!(rt; view.at().is_none(), true);
+    let mut merge = view.close();
+    merge.seek(&[0, 2], number)?;
+    assert_eq!(rt; merge.fault(), None);
+    assert_eq!(rt; stands(&merge), Some((2, 0)));
+    Ok(())
+}
+
 #[test]
 fn inputs_that_stand_at_places_are_merged_there(rt: HostRuntime) -> Result<(), Fail> {
     let alloc = rt.alloc();
@@ -259,9 +364,44 @@ fn a_view_turns_and_is_resumed(rt: HostRuntime) -> Result<(), Fail> {
     view.prev()?;
     assert_eq!(rt; seen(&view), Some((b'a', b'2')));
     view.next()?;
-    let mut view = Visible::resume(view.close(), Number::new(1, 6));
+    let number = Number::new(1, 6);
+    let (mut view, answer) = Visible::resume(view.close(), b"b", number);
+    assert_eq!(rt; answer, Ok(()));
     assert_eq!(rt; seen(&view), Some((b'b', b'6')));
     view.next()?;
     assert_eq!(rt; seen(&view), Some((b'c', b'5')));
+    Ok(())
+}
+
+#[test]
+fn a_resumed_view_shows_what_its_own_seek_would(rt: HostRuntime) -> Result<(), Fail> {
+    let alloc = rt.alloc();
+    for at in 0..9 {
+        let number = Number::new(1, at);
+        let rows = rows(alloc, at)?;
+        for key in b"abc" {
+            let mut odd = half(alloc, 1)?;
+            odd.seek(&[*key], number)?;
+            let mut even = half(alloc, 0)?;
+            even.seek(&[*key], number)?;
+            let mut inputs = Vec::new(alloc);
+            inputs.push(odd)?;
+            inputs.push(even)?;
+            let (mut resumed, answer) = Visible::resume(Merge::at_places(inputs), &[*key], number);
+            assert_eq!(rt; answer, Ok(()));
+            let mut sought = Visible::new(both(alloc, half(alloc, 1)?, half(alloc, 0)?)?, number);
+            sought.seek(&[*key])?;
+            for row in rows.iter() {
+                if row.0 >= *key {
+                    assert_eq!(rt; seen(&resumed), Some(*row));
+                    assert_eq!(rt; seen(&sought), Some(*row));
+                    resumed.next()?;
+                    sought.next()?;
+                }
+            }
+            assert_eq!(rt; seen(&resumed), None);
+            assert_eq!(rt; seen(&sought), None);
+        }
+    }
     Ok(())
 }

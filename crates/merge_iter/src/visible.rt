@@ -1,9 +1,10 @@
 //! What a number sees of a cursor's entries.
 
-ghost use Rattle.std.specs.Prelude.{◌≡◌, ◌<◌, ◌≤◌, [], ℕ, false, true, not, List, Option, Some, None, IfSome, OnErr, length, option_map, take};
+ghost use Rattle.std.specs.Prelude.{◌≡◌, ◌<◌, ◌≤◌, [], ℕ, false, true, not, List, Option, Some, None, Err, IfSome, OnErr, length, option_map, take};
 ghost use Rattle.peb_base.specs.Cursors.{place_in, place_from, first_place, last_place, next_place, previous_place, LeadsTo, CountsFaults, IfDamage, refusal};
 ghost use Rattle.peb_base.specs.EntryRefs.{entry_of};
 ghost use Rattle.peb_base.specs.declared.entry.Entry.{Entry};
+ghost use Rattle.peb_base.specs.declared.read_fault.ReadFault.{ReadFault};
 ghost use Rattle.merge_iter.specs.Seeing.{visible, Sees, put_at_most, puts, is_passed, is_hidden, key_after, key_of, IsAhead, IsBack, is_found, looks_back, seen};
 
 use crate::moving::go_on;
@@ -57,19 +58,37 @@ impl<C: Cursor> Visible<C> {
         }
     }
 
-    /// Sees a cursor's entries at a number again. Where the cursor stands at an entry that the number
-    /// sees, it is at the place of that; it moves nothing.
-    pub fn resume(inner: C, number: Number) -> Visible<C>
-        ensures sees { (es : List Entry) (place : Option ℕ) → Sees C.Cursor number inner es place
-            → SeesIn C.Cursor result es place }
-        ensures inner { inner_of result ≡ inner }
-        ensures number { number_of_view result ≡ number }
+    /// Sees a cursor's entries at a number again, over a cursor that stands where a seek of a key and the
+    /// number leaves it. It answers, and goes, as `new` and then `seek` of the key would: where the
+    /// cursor's seek refused, it answers just that and moves nothing.
+    pub fn resume(inner: C, key: &[u8], number: Number) -> (Visible<C>, Result<(), ReadFault>)
+        // what it gives
+        ensures goes { (es : List Entry) → C.refused inner ≡ None
+            → C.stands inner es (place_from key.now number es)
+            → LeadsTo (SeesIn C.Cursor result.0 es)
+            (place_from key.now number (visible number es)) result.1 }
+        ensures told { (e : ReadFault) → C.refused inner ≡ Some e
+            → (result.1 ≡ Err e) × (inner_of result.0 ≡ inner) }
+        // what it leaves
+        ensures nothing { C.refused inner ≡ None
+            → OnErr result.1 (seen_by C.Cursor result.0 ≡ None) }
+        ensures refused { C.refused (inner_of result.0) ≡ refusal result.1 }
+        // when it fails
+        ensures counts { C.refused inner ≡ None
+            → CountsFaults (C.faults inner) (C.faults (inner_of result.0)) result.1 }
+        ensures damage { C.refused inner ≡ None
+            → IfDamage result.1 (C.damaged (inner_of result.0)) }
+        // what stays
+        ensures number { number_of_view result.0 ≡ number }
+        ensures keeps { C.keeps inner (inner_of result.0) }
     {
-        Visible {
+        let mut view = Visible {
             inner,
             number,
             key: KeyBuf::new(),
-        }
+        };
+        let answer = view.go_in();
+        (view, answer)
     }
 
     /// Gives the cursor back, wherever it stands.
@@ -161,6 +180,35 @@ impl<C: Cursor> Visible<C> {
             self.inner.next()?;
         }
         Ok(())
+    }
+
+    /// Refuses as its cursor did, or goes on to the first entry at which a walk on stops.
+    fn go_in(&mut self) -> Result<(), ReadFault>
+        // what it gives
+        ensures goes { (es : List Entry) (at : Option ℕ) (p : ℕ) → C.refused self.old.inner ≡ None
+            → C.stands self.old.inner es at
+            → IsAhead self.old.number self.old.key es at p
+            → LeadsTo (SeesIn C.Cursor self.new es)
+            (place_in (visible self.old.number es) p) result }
+        ensures told { (e : ReadFault) → C.refused self.old.inner ≡ Some e
+            → (result ≡ Err e) × (self.new ≡ self.old) }
+        // what it leaves
+        ensures nothing { C.refused self.old.inner ≡ None
+            → OnErr result (C.shows self.new.inner ≡ None) }
+        ensures refused { C.refused self.new.inner ≡ refusal result }
+        // when it fails
+        ensures counts { C.refused self.old.inner ≡ None
+            → CountsFaults (C.faults self.old.inner) (C.faults self.new.inner) result }
+        ensures damage { C.refused self.old.inner ≡ None
+            → IfDamage result (C.damaged self.new.inner) }
+        // what stays
+        ensures number { self.new.number ≡ self.old.number }
+        ensures keeps { C.keeps self.old.inner self.new.inner }
+    {
+        if let Some(fault) = self.inner.fault() {
+            return Err(fault);
+        }
+        self.settle()
     }
 
     /// Goes to the first visible entry whose key doesn't come before this one, or to no place where all
