@@ -10,6 +10,7 @@ mod Telling
 mod Falling
 mod Going
 mod Passing
+mod Lending
 mod Beginning
 mod Rows
 mod Returning

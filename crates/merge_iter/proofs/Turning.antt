@@ -52,6 +52,7 @@ pub record WentBackTo {C : Type 0} (g : Ghosts C) (old new : Visible C) (found :
   pub keeps : g.keeps old.inner new.inner
   pub number : new.number ≡ old.number
   pub refused : g.refused new.inner ≡ None
+  pub same : g.shows old.inner ≡ None → (new ≡ old) × (found ≡ false)
 
 pub went_back : {C : Type 0} (g : Ghosts C) → Among g
     → ((a b c : C) → g.keeps a b → g.keeps b c → g.keeps a c) → (old l k : Visible C) (n : C)
@@ -74,6 +75,11 @@ went_back {C} g among kept_on old l k n was now w found is looks =
       keeps = kept_on old.inner l.inner n w.keeps keeps;
       number = w.number;
       refused = refused;
+      same = λ none.
+          let at = w.same none in
+          absurd (false≢true
+          (sym (ap (looks_back l.number l.key was) (ap (λ (v : Visible C). g.shows v.inner) at.0 ∙ none))
+          ∙ looks));
     })
   where
     step : ((es : List Entry) (place : Option ℕ) → g.stands l.inner es place

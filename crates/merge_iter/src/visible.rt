@@ -1,7 +1,7 @@
 //! What a number sees of a cursor's entries.
 
-ghost use Rattle.std.specs.Prelude.{◌≡◌, ◌<◌, ◌≤◌, [], ℕ, false, true, not, List, Option, Some, None, Err, IfSome, OnErr, length, option_map, take};
-ghost use Rattle.peb_base.specs.Cursors.{place_in, place_from, first_place, last_place, next_place, previous_place, LeadsTo, CountsFaults, IfDamage, refusal};
+ghost use Rattle.std.specs.Prelude.{◌≡◌, ◌<◌, ◌≤◌, [], ℕ, false, true, not, List, Option, Some, None, Err, IfSome, IsOk, OnErr, length, option_map, take};
+ghost use Rattle.peb_base.specs.Cursors.{entry_at, place_in, place_from, first_place, last_place, next_place, previous_place, LeadsTo, CountsFaults, IfDamage, refusal};
 ghost use Rattle.peb_base.specs.EntryRefs.{entry_of};
 ghost use Rattle.peb_base.specs.declared.entry.Entry.{Entry};
 ghost use Rattle.peb_base.specs.declared.read_fault.ReadFault.{ReadFault};
@@ -69,6 +69,8 @@ impl<C: Cursor> Visible<C> {
             (place_from key.now number (visible number es)) result.1 }
         ensures told { (e : ReadFault) → C.refused inner ≡ Some e
             → (result.1 ≡ Err e) × (inner_of result.0 ≡ inner) }
+        ensures sees { C.refused inner ≡ None
+            → seen_by C.Cursor result.0 ≡ C.shows (inner_of result.0) }
         // what it leaves
         ensures nothing { C.refused inner ≡ None
             → OnErr result.1 (seen_by C.Cursor result.0 ≡ None) }
@@ -103,8 +105,8 @@ impl<C: Cursor> Visible<C> {
         inner
     }
 
-    /// Lends the entry at its place, a put at or below the number; None at no place.
-    pub fn at(&self) -> Option<EntryRef<'_>>
+    /// Lends the cursor's entry, where it is a put at or below the number.
+    fn lent(&self) -> Option<EntryRef<'_>>
         ensures lent { option_map entry_of result ≡ seen_by C.Cursor self.now }
         ensures put { IfSome result
             (λ e. (puts (entry_of e).change ≡ true)
@@ -117,6 +119,18 @@ impl<C: Cursor> Visible<C> {
             return None;
         }
         Some(entry)
+    }
+
+    /// Lends the entry at its place, a put at or below the number; None at no place.
+    pub fn at(&self) -> Option<EntryRef<'_>>
+        ensures place { (es : List Entry) (place : Option ℕ) → SeesIn C.Cursor self.now es place
+            → option_map entry_of result ≡ entry_at (visible (number_of_view self.now) es) place }
+        ensures lent { option_map entry_of result ≡ seen_by C.Cursor self.now }
+        ensures put { IfSome result
+            (λ e. (puts (entry_of e).change ≡ true)
+            × ((entry_of e).number ≤ number_of_view self.now)) }
+    {
+        self.lent()
     }
 
     /// Whether a walk on doesn't stop at the cursor's entry.
@@ -165,6 +179,10 @@ impl<C: Cursor> Visible<C> {
             → IsAhead self.old.number self.old.key es at p
             → LeadsTo (SeesIn C.Cursor self.new es)
             (place_in (visible self.old.number es) p) result }
+        ensures fewer { C.ahead self.new.inner ≤ C.ahead self.old.inner }
+        ensures stays { C.shows self.old.inner ≡ None → IsOk result × (self.new ≡ self.old) }
+        ensures sees { put_at_most self.new.number (C.shows self.new.inner)
+            ≡ C.shows self.new.inner }
         // what it leaves
         ensures nothing { OnErr result (C.shows self.new.inner ≡ None) }
         ensures refused { C.refused self.new.inner ≡ refusal result }
@@ -192,6 +210,8 @@ impl<C: Cursor> Visible<C> {
             (place_in (visible self.old.number es) p) result }
         ensures told { (e : ReadFault) → C.refused self.old.inner ≡ Some e
             → (result ≡ Err e) × (self.new ≡ self.old) }
+        ensures sees { C.refused self.old.inner ≡ None
+            → put_at_most self.new.number (C.shows self.new.inner) ≡ C.shows self.new.inner }
         // what it leaves
         ensures nothing { C.refused self.old.inner ≡ None
             → OnErr result (C.shows self.new.inner ≡ None) }
@@ -219,6 +239,7 @@ impl<C: Cursor> Visible<C> {
             → LeadsTo (SeesIn C.Cursor self.new es)
             (place_from key.now (number_of_view self.old)
             (visible (number_of_view self.old) es)) result }
+        ensures sees { seen_by C.Cursor self.new ≡ C.shows (inner_of self.new) }
         // what it leaves
         ensures nothing { OnErr result (seen_by C.Cursor self.new ≡ None) }
         ensures refused { C.refused (inner_of self.new) ≡ refusal result }
@@ -241,6 +262,7 @@ impl<C: Cursor> Visible<C> {
         ensures goes { (es : List Entry) (place : Option ℕ) → SeesIn C.Cursor self.old es place
             → LeadsTo (SeesIn C.Cursor self.new es)
             (first_place (visible (number_of_view self.old) es)) result }
+        ensures sees { seen_by C.Cursor self.new ≡ C.shows (inner_of self.new) }
         // what it leaves
         ensures nothing { OnErr result (seen_by C.Cursor self.new ≡ None) }
         ensures refused { C.refused (inner_of self.new) ≡ refusal result }
@@ -263,6 +285,11 @@ impl<C: Cursor> Visible<C> {
         ensures goes { (es : List Entry) (place : Option ℕ) → SeesIn C.Cursor self.old es place
             → LeadsTo (SeesIn C.Cursor self.new es)
             (next_place (visible (number_of_view self.old) es) place) result }
+        ensures fewer { (e : Entry) → seen_by C.Cursor self.old ≡ Some e
+            → C.ahead (inner_of self.new) < C.ahead (inner_of self.old) }
+        ensures stays { C.shows (inner_of self.old) ≡ None
+            → IsOk result × (C.shows (inner_of self.new) ≡ None) }
+        ensures sees { seen_by C.Cursor self.new ≡ C.shows (inner_of self.new) }
         // what it leaves
         ensures nothing { OnErr result (seen_by C.Cursor self.new ≡ None) }
         ensures refused { C.refused (inner_of self.new) ≡ refusal result }
@@ -311,6 +338,9 @@ impl<C: Cursor> Visible<C> {
             → IsBack self.old.number self.old.key es r left found
             → looks_back self.old.number self.old.key found (C.shows self.old.inner) ≡ false
             → LeadsTo (SeesIn C.Cursor self.new es) (previous_place (Some (length left))) result }
+        ensures stays { found ≡ false → IsOk result × (self.new ≡ self.old) }
+        ensures sees { looks_back self.old.number self.old.key found (C.shows self.old.inner) ≡ false
+            → put_at_most self.new.number (C.shows self.new.inner) ≡ C.shows self.new.inner }
         // what it leaves
         ensures nothing { OnErr result (C.shows self.new.inner ≡ None) }
         ensures refused { C.refused self.new.inner ≡ refusal result }
@@ -337,6 +367,9 @@ impl<C: Cursor> Visible<C> {
             → C.stands self.old.inner es (previous_place (Some r))
             → LeadsTo (SeesIn C.Cursor self.new es)
             (previous_place (Some (length (seen self.old.number [] (take r es))))) result }
+        ensures stays { C.shows self.old.inner ≡ None → IsOk result × (self.new ≡ self.old) }
+        ensures sees { put_at_most self.new.number (C.shows self.new.inner)
+            ≡ C.shows self.new.inner }
         // what it leaves
         ensures nothing { OnErr result (C.shows self.new.inner ≡ None) }
         ensures refused { C.refused self.new.inner ≡ refusal result }
@@ -362,6 +395,7 @@ impl<C: Cursor> Visible<C> {
         ensures goes { (es : List Entry) (place : Option ℕ) → SeesIn C.Cursor self.old es place
             → LeadsTo (SeesIn C.Cursor self.new es)
             (last_place (visible (number_of_view self.old) es)) result }
+        ensures sees { seen_by C.Cursor self.new ≡ C.shows (inner_of self.new) }
         // what it leaves
         ensures nothing { OnErr result (seen_by C.Cursor self.new ≡ None) }
         ensures refused { C.refused (inner_of self.new) ≡ refusal result }
@@ -382,6 +416,9 @@ impl<C: Cursor> Visible<C> {
         // what it gives
         ensures goes { (es : List Entry) (place : Option ℕ) → SeesIn C.Cursor self.old es place
             → LeadsTo (SeesIn C.Cursor self.new es) (previous_place place) result }
+        ensures stays { C.shows (inner_of self.old) ≡ None
+            → IsOk result × (C.shows (inner_of self.new) ≡ None) }
+        ensures sees { seen_by C.Cursor self.new ≡ C.shows (inner_of self.new) }
         // what it leaves
         ensures nothing { OnErr result (seen_by C.Cursor self.new ≡ None) }
         ensures refused { C.refused (inner_of self.new) ≡ refusal result }
