@@ -12,7 +12,7 @@ use Rattle.peb_base.specs.EntryLaws.{before_trans}
 use Rattle.peb_base.specs.Keys.{Bytes, key_eq}
 use Rattle.peb_base.specs.Sorting.{IsApart}
 use Rattle.peb_base.specs.declared.entry.Entry.{Entry}
-use Rattle.mem_table.specs.SortedParts.{all_before, find_is, is_shown, with_key, apart_front, apart_rest, front_before, front_sorted, rest_sorted, first_from-past, first_from-within, put_in-past, put_in-within}
+use Rattle.peb_base.specs.SortedParts.{all_before, find_is, is_shown, with_key, apart_front, apart_rest, front_before, front_sorted, rest_sorted, first_from-past, first_from-within, put_in-past, put_in-within}
 use Rattle.mem_table.specs.Chunked.{joined, chunk_from, HaveEntries}
 
 -- ---- where a key and number lie

@@ -4,7 +4,7 @@ use Rattle.std.specs.Prelude.{slice_get, nat_lt, IfSome}
 use Rattle.peb_base.specs.Cursors.{entry_at, place_in, place_from, previous_place}
 use Rattle.peb_base.specs.Entries.{AreSorted, comes_before, entry_lt, first_from}
 use Rattle.peb_base.specs.Keys.{Bytes}
-use Rattle.mem_table.specs.SortedParts.{behind_previous, first_from-not_before}
+use Rattle.peb_base.specs.SortedParts.{behind_previous, first_from-not_before}
 use Rattle.peb_base.specs.declared.entry.Entry.{Entry}
 use Rattle.mem_table.specs.Seen.{steps_ahead}
 

@@ -6,7 +6,7 @@ use Rattle.std.proofs.lemmas.List.{length-take}
 use Rattle.std.proofs.lemmas.List.Elements.{recursion_from_All}
 use Rattle.peb_base.specs.Batches.{numbered}
 use Rattle.peb_base.specs.Entries.{AreSorted, in_order, put_in, size_of}
-use Rattle.mem_table.specs.Inserting.{NumbersBelow, apart_below, below_append, below_in_order, below_more, below_numbered, bytes_of, entry_under, numbered_push, size_put}
+use Rattle.peb_base.specs.Inserting.{NumbersBelow, apart_below, below_append, below_in_order, below_more, below_numbered, bytes_of, entry_under, numbered_push, size_put}
 use Rattle.peb_base.specs.Sorting.{IsApart, in_order_push, sorted_is_in_order}
 use Rattle.peb_base.specs.declared.entry.Entry.{Entry}
 use Rattle.peb_base.specs.declared.op.Op.{Op}

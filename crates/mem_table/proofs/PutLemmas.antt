@@ -8,7 +8,7 @@ use Rattle.std.proofs.lemmas.List.Edits.{length-insert}
 use Rattle.std.proofs.lemmas.Bool.{true≢false}
 use Rattle.peb_base.specs.Entries.{AreSorted, IsEntry, entry_lt, put_in}
 use Rattle.peb_base.specs.Sorting.{IsApart, put_sorted}
-use Rattle.mem_table.specs.SortedParts.{apart_rest, front_before, put_in-ahead, put_in-past}
+use Rattle.peb_base.specs.SortedParts.{apart_rest, front_before, put_in-ahead, put_in-past}
 use Rattle.peb_base.specs.declared.entry.Entry.{Entry}
 use Rattle.mem_table.specs.Chunked.{joined, IsChunked, HaveEntries}
 use Rattle.mem_table.proofs.ChunkLemmas.{chunk_apart, joined_cut, map_insert, put_some, read_map, some_insert, some_set}

@@ -3,7 +3,7 @@ use Rattle.std.specs.Prelude.{ℕ, suc, ◌<◌, ◌≤◌, if◌then◌else◌,
 use Rattle.std.specs.List.{AllByRecursion}
 use Rattle.peb_base.specs.Keys.{Bytes}
 use Rattle.peb_base.specs.Entries.{AreSorted}
-use Rattle.mem_table.specs.SortedParts.{all_before}
+use Rattle.peb_base.specs.SortedParts.{all_before}
 use Rattle.peb_base.specs.declared.entry.Entry.{Entry}
 
 -- the entries of chunks, one chunk after another

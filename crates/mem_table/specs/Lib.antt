@@ -3,5 +3,3 @@ pub mod Seen
 pub mod SeenLaws
 pub mod SpotLaws
 pub mod Spots
-pub mod SortedParts
-pub mod Inserting

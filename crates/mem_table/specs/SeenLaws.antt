@@ -3,7 +3,7 @@ use Rattle.std.proofs.Common.{◌≡◌, ℕ, ◌<◌, ◌≤◌, List, [], leng
 use Rattle.std.specs.Prelude.{option_map, IfSome}
 use Rattle.peb_base.specs.Cursors.{StandsAmong, ComesBeforeNone, entry_at}
 use Rattle.peb_base.specs.Entries.{IsEntry, AreSorted}
-use Rattle.mem_table.specs.SortedParts.{entry_within, behind_front}
+use Rattle.peb_base.specs.SortedParts.{entry_within, behind_front}
 use Rattle.peb_base.specs.declared.entry.Entry.{Entry}
 use Rattle.mem_table.specs.Spots.{IsSpot, place_of}
 use Rattle.mem_table.specs.Seen.{StandsIn, WalksIn, Keeps, entries_in, place_at, shown_by, ahead_of, back_of, steps_ahead, steps_back}

@@ -4,7 +4,7 @@ ghost use Rattle.std.specs.Prelude.{◌≡◌, ◌<◌, ◌≤◌, ◌-◌, [], 
 ghost use Rattle.std.specs.Arc.{arc_value};
 ghost use Rattle.peb_base.specs.Entries.{AreSorted, IsEntry, comes_before, first_from, put_in};
 ghost use Rattle.peb_base.specs.Sorting.{IsApart};
-ghost use Rattle.mem_table.specs.SortedParts.{all_before};
+ghost use Rattle.peb_base.specs.SortedParts.{all_before};
 
 use peb_base::{Entry, Memory, Number, is_before};
 use std::alloc::Global;

@@ -8,7 +8,7 @@ ghost use Rattle.peb_base.specs.Entries.{AreSorted, IsEntry, put_in};
 ghost use Rattle.peb_base.specs.Keys.{key_eq};
 ghost use Rattle.peb_base.specs.Sorting.{IsApart};
 ghost use Rattle.mem_table.specs.Chunked.{joined, chunk_from, HaveEntries};
-ghost use Rattle.mem_table.specs.SortedParts.{all_before};
+ghost use Rattle.peb_base.specs.SortedParts.{all_before};
 ghost use Rattle.mem_table.specs.Spots.{IsSpot, place_of};
 
 use crate::chunk::Chunk;

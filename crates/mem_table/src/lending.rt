@@ -3,7 +3,7 @@
 ghost use Rattle.std.specs.Prelude.{◌≡◌, IfOk};
 ghost use Rattle.peb_base.specs.Entries.{IsEntry};
 ghost use Rattle.std.specs.Arc.{arc_value};
-ghost use Rattle.mem_table.specs.Inserting.{bytes_of, entry_under};
+ghost use Rattle.peb_base.specs.Inserting.{bytes_of, entry_under};
 ghost use Rattle.peb_base.specs.EntryRefs.{entry_of};
 
 use peb_base::{Change, ChangeRef, Entry, EntryRef, Memory, Number, Op, Value};

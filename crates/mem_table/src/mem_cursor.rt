@@ -5,7 +5,7 @@ ghost use Rattle.std.specs.Option.{ForSome};
 ghost use Rattle.mem_table.specs.Chunked.{joined};
 ghost use Rattle.mem_table.specs.Spots.{IsSpot};
 ghost use Rattle.peb_base.specs.Entries.{AreSorted};
-ghost use Rattle.mem_table.specs.SortedParts.{AscendFrom-prop};
+ghost use Rattle.peb_base.specs.SortedParts.{AscendFrom-prop};
 
 use crate::entries::Entries;
 use crate::spot::Spot;

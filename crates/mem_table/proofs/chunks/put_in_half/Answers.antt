@@ -1,7 +1,7 @@
 use Rattle.std.proofs.Common.{◌≡◌, ◌∙◌, ◌++◌, true, false, List, refl, ap}
 use Rattle.std.specs.Arc.{arc_value}
 use Rattle.peb_base.specs.Entries.{entry_lt}
-use Rattle.mem_table.specs.SortedParts.{apart_front, apart_rest}
+use Rattle.peb_base.specs.SortedParts.{apart_front, apart_rest}
 use Rattle.peb_base.specs.declared.entry.Entry.{Entry}
 use Rattle.std.proofs.lemmas.Result.{on_ok_weaker}
 use Rattle.mem_table.proofs.PutLemmas.{begins, lower_half, upper_half}

@@ -1,6 +1,6 @@
 use Rattle.std.proofs.Common.{◌≡◌, ◌+◌, ◌<◌, ◌≤◌, ℕ, List, length, sym, subst, arith}
 use Rattle.std.specs.Prelude.{All}
-use Rattle.mem_table.specs.Inserting.{inserted_below}
+use Rattle.peb_base.specs.Inserting.{inserted_below}
 use Rattle.peb_base.specs.Numbers.{number_of}
 use Rattle.peb_base.specs.declared.entry.Entry.{Entry}
 use Rattle.mem_table.proofs.tests.insert.Goals as goal

@@ -3,7 +3,7 @@ use Rattle.std.specs.Arc.{arc_value}
 use Rattle.std.specs.declared.sync.Arc.{Arc}
 use Rattle.std.proofs.lemmas.List.{length-map}
 use Rattle.peb_base.specs.Entries.{comes_before}
-use Rattle.mem_table.specs.SortedParts.{all_before}
+use Rattle.peb_base.specs.SortedParts.{all_before}
 use Rattle.peb_base.specs.declared.entry.Entry.{Entry}
 use Rattle.mem_table.proofs.ChunkLemmas.{last_tells}
 use Rattle.mem_table.proofs.chunk.Chunk.ends_before.Goals as goal

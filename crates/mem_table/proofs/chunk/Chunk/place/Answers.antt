@@ -3,7 +3,7 @@ use Rattle.std.specs.Arc.{arc_value}
 use Rattle.std.specs.declared.sync.Arc.{Arc}
 use Rattle.std.proofs.lemmas.List.Sorted.{IsPartitionPoint-from_clause}
 use Rattle.peb_base.specs.Entries.{AreSorted, comes_before, first_from}
-use Rattle.mem_table.specs.SortedParts.{parted, place_is}
+use Rattle.peb_base.specs.SortedParts.{parted, place_is}
 use Rattle.peb_base.specs.declared.entry.Entry.{Entry}
 use Rattle.mem_table.proofs.chunk.Chunk.place.Goals as goal
 

@@ -5,7 +5,7 @@ use Rattle.std.specs.declared.sync.Arc.{Arc}
 use Rattle.std.proofs.lemmas.List.{length-map}
 use Rattle.peb_base.specs.Entries.{AreSorted, first_from, put_in}
 use Rattle.peb_base.specs.Sorting.{IsApart, put_sorted}
-use Rattle.mem_table.specs.SortedParts.{first_from-bound, put_at}
+use Rattle.peb_base.specs.SortedParts.{first_from-bound, put_at}
 use Rattle.peb_base.specs.declared.entry.Entry.{Entry}
 use Rattle.mem_table.proofs.ChunkLemmas.{map_insert}
 use Rattle.mem_table.proofs.chunk.Chunk.put.Goals as goal

@@ -2,7 +2,7 @@ use Rattle.std.proofs.Common.{◌≡◌, ◌∙◌, ◌+◌, ◌<◌, ◌-◌, �
 use Rattle.std.specs.Prelude.{All, min}
 use Rattle.std.specs.Arc.{arc_value}
 use Rattle.peb_base.specs.Entries.{size_of}
-use Rattle.mem_table.specs.Inserting.{bytes_of, entry_under}
+use Rattle.peb_base.specs.Inserting.{bytes_of, entry_under}
 use Rattle.peb_base.specs.declared.entry.Entry.{Entry}
 use Rattle.mem_table.specs.Chunked.{joined}
 use Rattle.mem_table.proofs.InsertLemmas.{next_apart, next_in_order, none_yet, size_next}

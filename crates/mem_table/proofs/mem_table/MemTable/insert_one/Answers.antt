@@ -2,7 +2,7 @@ use Rattle.std.proofs.Common.{◌≡◌, ◌∙◌, ◌<◌, ◌-◌, ◌^◌, �
 use Rattle.std.specs.Prelude.{All}
 use Rattle.std.specs.Arc.{arc_value}
 use Rattle.peb_base.specs.Entries.{in_order}
-use Rattle.mem_table.specs.Inserting.{bytes_of}
+use Rattle.peb_base.specs.Inserting.{bytes_of}
 use Rattle.peb_base.specs.declared.entry.Entry.{Entry}
 use Rattle.mem_table.specs.Chunked.{joined}
 use Rattle.mem_table.proofs.InsertLemmas.{one_apart, one_in_order, size_next}
