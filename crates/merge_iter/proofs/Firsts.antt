@@ -1,12 +1,12 @@
 -- The first of the entries at which cursors stand, found one after another.
-use Rattle.std.proofs.Common.{◌≡◌, ℕ, ◌+◌, ◌<◌, ◌≤◌, ◌⊎◌, inl, inr, Bool, true, false, not, List, Option, Some, None, refl, sym, ap, ◌∙◌, subst, arith, length, map}
+use Rattle.std.proofs.Common.{◌≡◌, ℕ, ◌+◌, ◌<◌, ◌≤◌, ◌⊎◌, ◌↔◌, inl, inr, Bool, true, false, not, List, Option, Some, None, refl, sym, ap, ◌∙◌, subst, arith, length, map}
 use Rattle.std.specs.Prelude.{if◌then◌else◌, is_some, nat_lt, IfSome}
 use Rattle.std.proofs.lemmas.Bool.{true≢false, false≢true, false_from_ne_true, cases_lt, ltb-true, and_parts}
 use Rattle.std.proofs.lemmas.Bool.Decides.{nat_tests}
 use Rattle.peb_base.specs.declared.cursor.Cursor.{Ghosts}
 use Rattle.peb_base.specs.declared.entry.Entry.{Entry}
 use Rattle.merge_iter.specs.CutLaws.{meets_irrefl, meets_asym, meets_split}
-use Rattle.merge_iter.specs.Heads.{head_at, meets_first, takes, is_better, gives_way, IsChosen}
+use Rattle.merge_iter.specs.Heads.{head_at, current_head, meets_first, takes, is_better, gives_way, IsChosen}
 use Rattle.merge_iter.specs.StandLaws.{head_past, head_inside}
 
 -- ---- the order of entries that may not be there
@@ -203,3 +203,12 @@ current_inside g inputs back None way = tt
 current_inside g inputs back (Some i) way =
     let shown = current_shows g inputs back i way in
     head_inside g inputs i shown.0 shown.1
+
+-- there is no current cursor exactly where none is shown
+pub current_exact : {C : Type 0} (g : Ghosts C) (inputs : List C) (back : Bool) (current : Option ℕ)
+    → ((k : ℕ) → gives_way back (map g.shows inputs) current k ≡ true)
+    → (current ≡ None) ↔ (current_head (map g.shows inputs) current ≡ None)
+current_exact g inputs back None way = (λ is. refl, λ is. refl)
+current_exact g inputs back (Some i) way =
+    let shown = current_shows g inputs back i way in
+    (λ is. cc, λ none. let both : Some shown.0 ≡ None = sym shown.1 ∙ none in cc)

@@ -9,7 +9,7 @@ use Rattle.merge_iter.specs.CutLaws.{some_is}
 use Rattle.merge_iter.specs.Seeing.{puts, put_at_most, is_passed, seen, visible, Sees}
 use Rattle.merge_iter.specs.StandLaws.{Among}
 use Rattle.merge_iter.proofs.Going.{seen_passed, seen_deleted, seen_put}
-use Rattle.merge_iter.proofs.Passing.{not_hidden}
+use Rattle.merge_iter.proofs.Showing.{not_hidden}
 
 -- each entry that is seen is a put at or below the number
 all_put : (n : ℕ) (key : Bytes) (es : List Entry) (p : ℕ) (e : Entry)

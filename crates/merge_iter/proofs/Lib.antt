@@ -3,6 +3,7 @@ mod Firsts
 mod Landing
 mod Leading
 mod Sending
+mod Showing
 mod Walked
 mod Stepping
 mod Seeking

@@ -1,15 +1,15 @@
 -- A view that goes on over what isn't seen.
-use Rattle.std.proofs.Common.{◌≡◌, ℕ, ◌<◌, ◌≤◌, Bool, true, false, not, ◌&&◌, ◌||◌, List, Option, Some, None, refl, sym, ap, ◌∙◌, subst, arith}
-use Rattle.std.specs.Prelude.{if◌then◌else◌, nat_lt}
-use Rattle.std.proofs.lemmas.Bool.{true≢false, false≢true}
-use Rattle.peb_base.specs.Keys.{Bytes, key_eq}
+use Rattle.std.proofs.Common.{◌≡◌, ℕ, ◌<◌, ◌≤◌, Bool, true, false, List, [], ◌∷◌, ◌++◌, Option, Some, None, refl, sym, ap, ◌∙◌, subst, arith}
+use Rattle.std.proofs.lemmas.Bool.{false≢true}
 use Rattle.peb_base.specs.Cursors.{next_place, place_in}
 use Rattle.peb_base.specs.declared.cursor.Cursor.{Ghosts}
 use Rattle.peb_base.specs.declared.entry.Entry.{Entry}
-use Rattle.merge_iter.specs.Seeing.{puts, put_at_most, is_passed, is_hidden, key_after, IsAhead, Sees, visible}
+use Rattle.merge_iter.specs.Seeing.{is_hidden, key_after, IsAhead, Sees, visible}
 use Rattle.merge_iter.specs.StandLaws.{Among}
 use Rattle.merge_iter.specs.declared.visible.Visible.{Visible}
+use Rattle.merge_iter.specs.VisibleViews.{HasPassed}
 use Rattle.merge_iter.proofs.Going.{step_on, stop_on}
+use Rattle.merge_iter.proofs.Showing.{hidden_there, passed_hidden}
 
 -- it went on from old, and what could be seen there from its place on still can
 pub record WentOnTo {C : Type 0} (g : Ghosts C) (old new : Visible C) : Type 0 where
@@ -22,31 +22,7 @@ pub record WentOnTo {C : Type 0} (g : Ghosts C) (old new : Visible C) : Type 0 w
   pub refused : g.refused new.inner ≡ None
   pub fewer : g.ahead new.inner ≤ g.ahead old.inner
   pub same : g.shows old.inner ≡ None → new ≡ old
-
--- what is hidden is there
-hidden_there : (n : ℕ) (key : Bytes) (o : Option Entry) → is_hidden n key o ≡ true
-    → (e : Entry) × (o ≡ Some e)
-hidden_there n key None h = absurd (false≢true h)
-hidden_there n key (Some e) h = (e, refl)
-
--- what isn't hidden is seen
-pub not_hidden : (n : ℕ) (key : Bytes) (o : Option Entry) → is_hidden n key o ≡ false
-    → put_at_most n o ≡ o
-not_hidden n key None h = refl
-not_hidden n key (Some e) h = by (nat_lt n e.number) refl (puts e.change) refl
-  where
-    by : (a : Bool) → nat_lt n e.number ≡ a → (b : Bool) → puts e.change ≡ b
-        → (if not (nat_lt n e.number) && puts e.change then Some e else None) ≡ Some e
-    by true t b u =
-        absurd (true≢false (sym (ap (λ c. (c || key_eq e.key key) || not (puts e.change)) t) ∙ h))
-    by false t true u =
-        ap (λ c. if not c && puts e.change then Some e else None) t
-        ∙ ap (λ c. if c then Some e else None) u
-    by false t false u = absurd (true≢false (sym (last (is_passed n key e) u) ∙ h))
-      where
-        last : (c : Bool) → puts e.change ≡ false → (c || not (puts e.change)) ≡ true
-        last true u = refl
-        last false u = ap not u
+  pub passed : (given : List Entry) → HasPassed g old given → HasPassed g new given
 
 pub went_further : {C : Type 0} (g : Ghosts C) → Among g
     → ((a b c : C) → g.keeps a b → g.keeps b c → g.keeps a c) → (old l k : Visible C) (n : C)
@@ -55,13 +31,17 @@ pub went_further : {C : Type 0} (g : Ghosts C) → Among g
     → ((es : List Entry) (place : Option ℕ) → g.stands k.inner es place
     → g.stands n es (next_place es place)) → g.faults k.inner ≤ g.faults n → g.keeps k.inner n
     → g.refused n ≡ None
-    → ((e : Entry) → g.shows k.inner ≡ Some e → g.ahead n < g.ahead k.inner) → WentOnTo g old (record k { inner = n })
+    → ((e : Entry) → g.shows k.inner ≡ Some e → g.ahead n < g.ahead k.inner)
+    → ((es : List Entry) (e : Entry) → g.shows k.inner ≡ Some e → g.walks k.inner es
+    → g.walks n (es ++ e ∷ [])) → WentOnTo g old (record k { inner = n })
 went_further {C} g among kept_on old l k n w is hidden =
     subst (λ (v : Visible C). ((es : List Entry) (place : Option ℕ) → g.stands v.inner es place
     → g.stands n es (next_place es place)) → g.faults v.inner ≤ g.faults n → g.keeps v.inner n
     → g.refused n ≡ None
-    → ((e : Entry) → g.shows v.inner ≡ Some e → g.ahead n < g.ahead v.inner) → WentOnTo g old (record v { inner = n })) (sym is)
-    (λ goes later keeps refused less. record {
+    → ((e : Entry) → g.shows v.inner ≡ Some e → g.ahead n < g.ahead v.inner)
+    → ((es : List Entry) (e : Entry) → g.shows v.inner ≡ Some e → g.walks v.inner es
+    → g.walks n (es ++ e ∷ [])) → WentOnTo g old (record v { inner = n })) (sym is)
+    (λ goes later keeps refused less on. record {
       goes = λ es at p s ahead.
           let r = w.goes es at p s ahead in
           let shown = (among l.inner es r.0 r.1).shows in (
@@ -86,6 +66,13 @@ went_further {C} g among kept_on old l k n w is hidden =
       same = λ none. absurd (false≢true
           (sym (ap (is_hidden l.number l.key) (ap (λ (v : Visible C). g.shows v.inner) (w.same none) ∙ none))
           ∙ hidden));
+      passed = λ given has.
+          let there = hidden_there l.number l.key (g.shows l.inner) hidden in
+          subst (λ o. HasPassed g (record l { key = key_after l.number l.key o; inner = n }) given)
+          (sym there.1)
+          (passed_hidden g l n given there.0 (w.passed given has) there.1
+          (subst (λ o. is_hidden l.number l.key o ≡ true) there.1 hidden)
+          (λ es. on es there.0 there.1));
     })
 
 -- where it stops, it sees

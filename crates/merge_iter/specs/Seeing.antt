@@ -55,6 +55,11 @@ abbrev pub key_after : ℕ → Bytes → Option Entry → Bytes
 key_after n key None = key
 key_after n key (Some e) = if is_passed n key e then key else e.key
 
+-- the key that the last of these numbered at most n has, or this one, once they are all passed
+abbrev pub key_past : ℕ → Bytes → List Entry → Bytes
+key_past n key [] = key
+key_past n key (e ∷ es) = key_past n (key_after n key (Some e)) es
+
 -- a walk on doesn't stop at the entry
 abbrev pub is_hidden : ℕ → Bytes → Option Entry → Bool
 is_hidden n key None = false

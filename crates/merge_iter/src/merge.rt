@@ -1,6 +1,6 @@
 //! Cursors merged into one.
 
-ghost use Rattle.std.specs.Prelude.{◌≡◌, ◌<◌, ◌≤◌, ◌++◌, ◌∷◌, [], ℕ, false, true, List, Option, Some, None, IfSome, IsOk, OnOk, OnErr, if◌then◌else◌, not, length, map, option_map};
+ghost use Rattle.std.specs.Prelude.{◌≡◌, ◌↔◌, ◌<◌, ◌≤◌, ◌++◌, ◌∷◌, [], ℕ, false, true, List, Option, Some, None, IfSome, IsOk, OnOk, OnErr, if◌then◌else◌, not, length, map, option_map};
 ghost use Rattle.peb_base.specs.Cursors.{place_from, first_place, last_place, next_place, previous_place, LeadsTo, CountsFaults, IfDamage, ComesBeforeNone, refusal};
 ghost use Rattle.peb_base.specs.Entries.{comes_before, entry_lt};
 ghost use Rattle.peb_base.specs.EntryRefs.{entry_of};
@@ -99,6 +99,7 @@ impl<C: Cursor> Merge<C> {
     /// The place of the input whose entry `at` lends; None exactly at no place.
     pub fn source(&self) -> Option<usize>
         ensures current { result ≡ (merged_of self.now).current }
+        ensures exact { (result ≡ None) ↔ (shown_by C.Cursor (merged_of self.now) ≡ None) }
         ensures inside { IfSome result (λ place. place < length (merged_of self.now).inputs) }
     {
         self.current

@@ -405,3 +405,38 @@ fn a_resumed_view_shows_what_its_own_seek_would(rt: HostRuntime) -> Result<(), F
     }
     Ok(())
 }
+
+/// One put of a value under a key of one byte, numbered 1.1, and another behind it.
+fn two_puts(alloc: Global, first: (u8, u8), second: (u8, u8)) -> Result<TrialCursor, Fail> {
+    let mut entries = Vec::new(alloc);
+    for (key, value) in [first, second] {
+        entries.push(Entry {
+            key: Key::new(alloc, &[key])?,
+            number: Number::new(1, 1),
+            change: Change::Put(Value::new(alloc, &[value])?),
+        })?;
+    }
+    Ok(TrialCursor::new(entries))
+}
+
+#[test]
+fn of_an_entry_of_two_inputs_a_view_shows_the_first_alone(rt: HostRuntime) -> Result<(), Fail> {
+    let alloc = rt.alloc();
+    let one = two_puts(alloc, (b'a', b'1'), (b'b', b'1'))?;
+    let other = two_puts(alloc, (b'b', b'2'), (b'c', b'2'))?;
+    let rows = [(b'a', b'1'), (b'b', b'1'), (b'c', b'2')];
+    let mut view = Visible::new(both(alloc, one, other)?, Number::new(1, 1));
+    view.first()?;
+    for row in rows {
+        assert_eq!(rt; seen(&view), Some(row));
+        view.next()?;
+    }
+    assert_eq!(rt; seen(&view), None);
+    view.last()?;
+    for row in rows.iter().rev() {
+        assert_eq!(rt; seen(&view), Some(*row));
+        view.prev()?;
+    }
+    assert_eq!(rt; seen(&view), None);
+    Ok(())
+}

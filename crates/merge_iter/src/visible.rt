@@ -1,6 +1,6 @@
 //! What a number sees of a cursor's entries.
 
-ghost use Rattle.std.specs.Prelude.{◌≡◌, ◌<◌, ◌≤◌, [], ℕ, false, true, not, List, Option, Some, None, Err, IfSome, IsOk, OnErr, length, option_map, take};
+ghost use Rattle.std.specs.Prelude.{◌≡◌, ◌<◌, ◌≤◌, ◌++◌, ◌∷◌, [], ℕ, false, true, not, List, Option, Some, None, Err, IfSome, IsOk, OnOk, OnErr, length, option_map, take};
 ghost use Rattle.peb_base.specs.Cursors.{entry_at, place_in, place_from, first_place, last_place, next_place, previous_place, LeadsTo, CountsFaults, IfDamage, refusal};
 ghost use Rattle.peb_base.specs.EntryRefs.{entry_of};
 ghost use Rattle.peb_base.specs.declared.entry.Entry.{Entry};
@@ -40,7 +40,7 @@ fn passes(entry: &EntryRef<'_>, number: u64, key: &[u8]) -> bool
 }
 
 impl<C: Cursor> Visible<C> {
-    ghost use Rattle.merge_iter.specs.VisibleViews.{inner_of, number_of_view, seen_by, SeesIn};
+    ghost use Rattle.merge_iter.specs.VisibleViews.{inner_of, number_of_view, seen_by, SeesIn, HasPassed, HasShown};
 
     /// Sees a cursor's entries at a number, at no place. The cursor stands at no place.
     pub fn new(inner: C, number: Number) -> Visible<C>
@@ -179,6 +179,8 @@ impl<C: Cursor> Visible<C> {
             → IsAhead self.old.number self.old.key es at p
             → LeadsTo (SeesIn C.Cursor self.new es)
             (place_in (visible self.old.number es) p) result }
+        ensures shown { (given : List Entry) → HasPassed C.Cursor self.old given
+            → OnOk result (HasShown C.Cursor self.new given) }
         ensures fewer { C.ahead self.new.inner ≤ C.ahead self.old.inner }
         ensures stays { C.shows self.old.inner ≡ None → IsOk result × (self.new ≡ self.old) }
         ensures sees { put_at_most self.new.number (C.shows self.new.inner)
@@ -262,6 +264,7 @@ impl<C: Cursor> Visible<C> {
         ensures goes { (es : List Entry) (place : Option ℕ) → SeesIn C.Cursor self.old es place
             → LeadsTo (SeesIn C.Cursor self.new es)
             (first_place (visible (number_of_view self.old) es)) result }
+        ensures shown { OnOk result (HasShown C.Cursor self.new []) }
         ensures sees { seen_by C.Cursor self.new ≡ C.shows (inner_of self.new) }
         // what it leaves
         ensures nothing { OnErr result (seen_by C.Cursor self.new ≡ None) }
@@ -285,6 +288,9 @@ impl<C: Cursor> Visible<C> {
         ensures goes { (es : List Entry) (place : Option ℕ) → SeesIn C.Cursor self.old es place
             → LeadsTo (SeesIn C.Cursor self.new es)
             (next_place (visible (number_of_view self.old) es) place) result }
+        ensures shown { (given : List Entry) (e : Entry)
+            → seen_by C.Cursor self.old ≡ Some e → HasShown C.Cursor self.old given
+            → OnOk result (HasShown C.Cursor self.new (given ++ e ∷ [])) }
         ensures fewer { (e : Entry) → seen_by C.Cursor self.old ≡ Some e
             → C.ahead (inner_of self.new) < C.ahead (inner_of self.old) }
         ensures stays { C.shows (inner_of self.old) ≡ None

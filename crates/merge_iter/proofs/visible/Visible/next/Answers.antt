@@ -1,8 +1,9 @@
-use Rattle.std.proofs.Common.{sym, ap, ◌∙◌, subst}
+use Rattle.std.proofs.Common.{[], ◌∷◌, ◌++◌, sym, ap, ◌∙◌, subst}
 use Rattle.peb_base.specs.Cursors.{next_place, place_in, LeadsTo}
 use Rattle.merge_iter.specs.Seeing.{IsAhead, visible}
 use Rattle.merge_iter.specs.VisibleViews.{SeesIn}
 use Rattle.merge_iter.proofs.Beginning.{next_ahead}
+use Rattle.merge_iter.proofs.Showing.{passed_shown}
 use Rattle.merge_iter.proofs.visible.Visible.next.Goals as goal
 
 pub returns-clause-goes : goal.returns-clause-goes
@@ -15,3 +16,10 @@ returns-clause-goes g c = λ es place s.
     (c.settle.ensures.goes es (next_place es s.at) on.0
     (c.in_ok-next.ensures.goes es s.at (subst (λ v. g.C.Cursor.stands v.inner es s.at) (sym kept) s.stands))
     (subst (λ v. IsAhead v.number v.key es (next_place es s.at) on.0) (sym kept) on.1))
+
+pub returns-clause-shown : goal.returns-clause-shown
+returns-clause-shown g c = λ given e sees has.
+    let old = c.args.self.now in
+    c.settle.ensures.shown (given ++ e ∷ [])
+    (passed_shown g.C.Cursor old c.keep_key.new.self c.next.new.self given e c.keep_key.ensures has sees
+    c.in_ok-next.ensures.walks)
