@@ -1,4 +1,5 @@
 pub mod Causes
+pub mod Crashes
 pub mod Names
 pub mod Numbers
 pub mod Outside

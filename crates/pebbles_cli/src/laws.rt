@@ -1,5 +1,6 @@
 //! Laws of what a run tells. Each function runs nothing; its contract is the law.
 
+ghost use Rattle.pebbles_cli.specs.Crashes.{FinishedLogsStay, RunsLeaveRanges};
 ghost use Rattle.pebbles_cli.specs.Numbers.{RunsNumber};
 ghost use Rattle.pebbles_cli.specs.Shows.{RunsShow, StoppedStays};
 
@@ -20,4 +21,16 @@ pub fn law_numbers()
 /// Once the journal has failed each write replies `stopped` and changes nothing.
 pub fn law_stopped()
     ensures { StoppedStays }
+{}
+
+/// Over a journal whose images all stood for one list of batches, a run leaves what the next run's
+/// promise asks: images from the settled batches to all, and, whenever it is stopped, from those that
+/// were opened to all.
+pub fn law_next_run()
+    ensures { RunsLeaveRanges }
+{}
+
+/// A log that was finished before a run is as it was, also in each image of a crash within the run.
+pub fn law_finished_logs()
+    ensures { FinishedLogsStay }
 {}

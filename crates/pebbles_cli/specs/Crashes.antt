@@ -1,0 +1,60 @@
+-- What a run leaves for the next one, whatever crash comes.
+use Rattle.std.specs.Prelude.{◌≡◌, ◌⊎◌, ℕ, ◌≤◌, true, IsTrue, List, Option}
+use Rattle.peb_base.specs.declared.profile.Profile.TheVariants.{Small}
+use Rattle.peb_base.specs.Batches.{Batches}
+use Rattle.disk_model.specs.declared.journal_file.JournalFile.TheVariants.{Log}
+use Rattle.disk_model.specs.Images.{Image}
+use Rattle.disk_model.specs.Told.{JournalTold}
+use Rattle.record_log.specs.Log.{IsUnfinished}
+use Rattle.script.specs.declared.cause.Cause.{Cause}
+use Rattle.flsm_core.specs.Opening.{OpensOn}
+use Rattle.flsm_core.specs.Place.{Start, start_at, all_of}
+use Rattle.flsm_core.specs.Range.{Range, AreIn}
+use Rattle.pebbles_cli.specs.Outside.{Outside}
+use Rattle.pebbles_cli.specs.Top.{Asked, NotOpened, Ran, Plays}
+
+-- ---- the next run's premise
+
+-- all batches that may be there once this was played: where no store was opened, the base
+pub all_after : {start : Start} {asked : Asked} {old new : Outside} {cause : Cause}
+    → Plays start asked old new cause → Batches
+all_after {start = start} (inl not_opened) = start.base
+all_after (inr ran) = all_of ran.closed.place
+
+-- those that must be there: where no store was opened, the base, and else the settled ones
+pub least_after : {start : Start} {asked : Asked} {old new : Outside} {cause : Cause}
+    → Plays start asked old new cause → Batches
+least_after {start = start} (inl not_opened) = start.base
+least_after (inr ran) = ran.closed.place.settled
+
+-- at least these batches and at most those, in a small store
+abbrev pub small_range : Batches → Batches → Range
+small_range least all = record { profile = Small; least = least; all = all }
+
+-- Over a journal whose images all stood for the base: after a run the images of a crash lie in the
+-- range from the settled batches to all, and those of any moment since it began in that from the base.
+-- So the next run has what its promise asks, whenever this one was stopped.
+abbrev pub RunsLeaveRanges : Type 1
+RunsLeaveRanges = (asked : Asked) (old new : Outside) (cause : Cause) (base : Batches)
+    → IsTrue old.devices.tells → IsTrue new.devices.tells
+    → OpensOn Small true base old.devices.journal.seen old.devices.journal.may_leave
+    → (plays : Plays (start_at old.devices.journal Small true base) asked old new cause)
+    → AreIn (small_range (least_after plays) (all_after plays)) new.devices.journal.may_leave
+    × AreIn (small_range base (all_after plays))
+    (new.devices.journal.left_since old.devices.journal.moment)
+
+-- ---- what was there before
+
+-- the file has this content in each image that a crash since the time might have left
+abbrev pub AlwaysHas : JournalTold → ℕ → ℕ → Option (List ℕ) → Type 0
+AlwaysHas told t n content = (image : Image) → told.left_since t image → image (Log n) ≡ content
+
+-- A log that was finished before a run is as it was: reads give the same, and where each image since a
+-- time had one content of it, each later one has it.
+abbrev pub FinishedLogsStay : Type 1
+FinishedLogsStay = (start : Start) (asked : Asked) (old new : Outside) (cause : Cause)
+    → IsTrue old.devices.tells → Ran start asked old new cause
+    → (n : ℕ) → (IsUnfinished (old.devices.journal.seen (Log n)) → ⊥)
+    → (new.devices.journal.seen (Log n) ≡ old.devices.journal.seen (Log n))
+    × ((t : ℕ) (content : Option (List ℕ)) → t ≤ old.devices.journal.moment
+    → AlwaysHas old.devices.journal t n content → AlwaysHas new.devices.journal t n content)
