@@ -8,7 +8,7 @@ use Rattle.byteorder.specs.Endian.{big_bytes, big_number}
 use Rattle.byteorder.specs.Numbers.{big_number-reads_back}
 use Rattle.record_log.specs.BatchRecord.{batch_bytes, IsBatch, kind_of, value_bytes, op_bytes, ops_bytes, IsKey, IsChange, IsOp, AreOps}
 use Rattle.record_log.specs.Counted.{counted_bytes}
-use Rattle.record_log.proofs.Numbers.{one_counted}
+use Rattle.record_log.specs.CountedLaws.{one_counted}
 
 -- an operation in front of others, part by part
 op_apart : (op : Op) (rest : List ℕ) → op_bytes op ++ rest ≡ kind_of op.change ∷ (counted_bytes 2 op.key ++ (value_bytes op.change ++ rest))

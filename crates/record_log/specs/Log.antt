@@ -47,3 +47,8 @@ pub record Holds (file : JournalFile) (header : Header) (records : List (ℕ
   pub groups : List (List (List ℕ))
   pub log : IsLog file header groups found
   pub given : records ≡ placed 24 groups
+
+-- the place of the closed gate behind all groups that the file holds
+abbrev pub IsPlaceBehind : JournalFile → Header → Option (List ℕ) → ℕ → Type 0
+IsPlaceBehind file header found place = (groups : List (List (List ℕ)))
+    → IsLog file header groups found → place ≡ 24 + length (groups_bytes groups)

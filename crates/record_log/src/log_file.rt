@@ -8,7 +8,7 @@ ghost use Rattle.record_log.specs.Crash.{Creates};
 ghost use Rattle.record_log.specs.Damage.{AtDamage};
 ghost use Rattle.record_log.specs.Groups.{record_bytes, records_bytes, with_group};
 ghost use Rattle.record_log.specs.Header.{IsHeaderOf};
-ghost use Rattle.record_log.specs.Log.{Holds, IsDamaged, IsUnfinished};
+ghost use Rattle.record_log.specs.Log.{Holds, IsDamaged, IsLog, IsUnfinished};
 ghost use Rattle.record_log.specs.Records.{views};
 
 use crate::add_fault::AddFault;
@@ -109,12 +109,68 @@ impl LogFile {
             (J.left_since journal.old) (J.left_since journal.new) }
         ensures steady { J.steady journal.old → J.steady journal.new }
     {
+        match LogFile::resume(alloc, journal, file) {
+            Ok(Some(found)) => {
+                let (_, header, records) = found;
+                Ok(Some((header, records)))
+            }
+            Ok(None) => Ok(None),
+            Err(fault) => Err(fault),
+        }
+    }
+
+    /// Reads the file as `open` does, and gives the log ready for further groups beside what was
+    /// read. Nothing waits in it.
+    ///
+    /// It answers as `open`, and leaves what that leaves: nothing is changed, and after `Ok` every
+    /// crash leaves the file as it was read.
+    pub fn resume<J: Journal>(
+        alloc: Global,
+        journal: &mut J,
+        file: JournalFile,
+    ) -> Result<Option<(LogFile, Header, Vec<Record>)>, LogFault>
+        // what it gives
+        ensures found { IfOk result (λ found. IfSome found (λ log. IsTrue J.tells
+            → Holds file log.1 (views log.2.items) (J.seen journal.old file))) }
+        ensures ready { IfOk result (λ found. IfSome found
+            (λ log. (groups : List (List (List ℕ))) → IsTrue J.tells
+            → IsLog file log.1 groups (J.seen journal.old file)
+            → IsReady J.tells J.seen J.may_leave journal.new log.0 log.1 groups)) }
+        ensures file { IfOk result (λ found. IfSome found (λ log. log_file log.0 ≡ file)) }
+        ensures empty { IfOk result (λ found. IfSome found (λ log. log_tail log.0 ≡ [])) }
+        ensures header { IfOk result (λ found. IfSome found (λ log. IsHeaderOf file log.1)) }
+        ensures absent { IfOk result (λ found. IfNone found (IsTrue J.tells
+            → IsUnfinished (J.seen journal.old file))) }
+        // when it fails
+        ensures damaged { IfErr result (λ fault. IsTrue J.tells
+            → AtDamage fault (λ at. (bytes : List ℕ) × (J.seen journal.old file ≡ Some bytes)
+            × IsDamaged file bytes at)) }
+        ensures fault { IsErrOf result LogFault.Fault
+            → Rose (J.faults journal.old) (J.faults journal.new) }
+        ensures later { J.faults journal.old ≤ J.faults journal.new }
+        // what it leaves
+        ensures kept { OnOk result (Keeps file (J.seen journal.old file)
+            (J.may_leave journal.new)) }
+        ensures seen { J.seen journal.new ≡ J.seen journal.old }
+        ensures any_moment { Follows (In file Stays) (J.may_leave journal.old)
+            (J.left_since journal.new (J.moment journal.old)) }
+        ensures time { Elapses (J.moment journal.old) (J.moment journal.new)
+            (J.left_since journal.old) (J.left_since journal.new) }
+        ensures steady { J.steady journal.old → J.steady journal.new }
+    {
         let bytes = match read_whole(alloc, journal, file) {
             Ok(Some(bytes)) => bytes,
             Ok(None) => return Ok(None),
             Err(fault) => return Err(fault),
         };
-        read_log(alloc, file, &bytes)
+        let (header, records, place) = match read_log(alloc, file, &bytes) {
+            Ok(Some(read)) => read,
+            Ok(None) => return Ok(None),
+            Err(fault) => return Err(fault),
+        };
+        let tail = Tail::new(alloc)?;
+        let log = LogFile { file, place, tail };
+        Ok(Some((log, header, records)))
     }
 
     /// The bytes of the records that wait, four for the length of each among them.
