@@ -1,19 +1,20 @@
 -- The guard of a key, and a table that is appended.
 use Rattle.std.proofs.Common.{◌≡◌, inl, inr, ◌≢◌, ℕ, zero, suc, ◌-◌, ◌<◌, ◌≤◌, Bool, true, false, List, [], ◌∷◌, ◌++◌, length, refl, sym, ap, ◌∙◌, arith, subst}
-use Rattle.std.specs.Prelude.{set, get_or, slice_index_or, if◌then◌else◌, ◌⊎◌, Result, Ok, Err, OnOk, OnErr}
+use Rattle.std.specs.Prelude.{set, get_or, slice_index_or, if◌then◌else◌, ◌⊎◌, ◌||◌, Result, Ok, Err, OnOk, OnErr}
 use Rattle.std.specs.List.{AllByRecursion}
 use Rattle.std.specs.declared.cmp.Ordering.{Ordering}
 use Rattle.std.specs.declared.cmp.Ordering.TheVariants.{Less, Equal, Greater}
 use Rattle.std.specs.Ordering.{nat_cmp, is_lt, is_eq, ordering_reverse}
 use Rattle.std.specs.Cmp.Lexicographic.{slice_cmp, nat_list_cmp_total}
+use Rattle.std.proofs.Math.Bool.{or-false}
 use Rattle.std.proofs.lemmas.Bool.{true≢false, cases_eq}
 use Rattle.std.proofs.lemmas.List.{get_or-set_same, get_or-set_other, length-set}
 use Rattle.std.proofs.lemmas.Map.Text.{is_eq-slice_cmp}
 use Rattle.peb_base.specs.Keys.{Bytes, key_lt, key_le, key_eq}
-use Rattle.peb_base.specs.KeyLaws.{lt_trans, le_lt}
+use Rattle.peb_base.specs.KeyLaws.{lt_trans, lt_asym, le_lt, other_key}
 use Rattle.peb_base.specs.declared.table_row.TableRow.{TableRow}
 use Rattle.guard_level.proofs.TableLemmas.{same_at}
-use Rattle.peb_base.specs.Guards.{Ascend, guard_of, LiesIn}
+use Rattle.peb_base.specs.Guards.{Ascend, guard_of, is_guard, LiesIn}
 use Rattle.guard_level.specs.Guards.{Guards, tables_of, IsLevel, with_table}
 
 -- every key is below another, the same, or above it
@@ -138,3 +139,45 @@ pushed_in row t g guard new level is lies (inr same) = rw same (with_tables row 
 pub some_key : (key : Bytes) → 0 < length key → key_lt [] key ≡ true
 some_key [] some = absurd (omega (arith, some))
 some_key (b ∷ bs) some = refl
+
+-- ---- whether a key is a guard, by the key at its guard
+
+not_same : (a b : Bytes) → key_lt a b ≡ true → key_eq a b ≡ false
+not_same a b lt = other_key a b (λ same. let twice : key_lt b b ≡ true = subst (λ c. key_lt c b ≡ true) same lt in true≢false (sym twice ∙ lt_asym b b twice))
+
+-- keys above another don't have it
+others_above : (key low : Bytes) (keys : List Bytes) → key_lt key low ≡ true → Ascend low keys → is_guard key (low ∷ keys) ≡ false
+others_above key low [] below h = rw (not_same key low below) refl
+others_above key low (k ∷ ks) below h = rw (not_same key low below) (others_above key k ks (lt_trans key low k below h.0) h.1)
+
+-- a key of the sentinel is none of them
+pub none_found : (low key : Bytes) (keys : List Bytes) → Ascend low keys → guard_of key keys ≡ 0 → is_guard key keys ≡ false
+none_found low key [] h is = refl
+none_found low key (k ∷ ks) h is = by (key_lt key k) refl is
+  where
+    by : (b : Bool) → key_lt key k ≡ b → (if b then 0 else suc (guard_of key ks)) ≡ 0 → is_guard key (k ∷ ks) ≡ false
+    by true e is = others_above key k ks e h.1
+    by false e is = absurd (omega (arith, is))
+
+-- the keys behind a key are above it
+behind_key : (low : Bytes) (keys : List Bytes) → Ascend low keys → guard_of low keys ≡ 0
+behind_key low [] h = refl
+behind_key low (k ∷ ks) h = rw h.0 refl
+
+-- another key is one of them exactly where it is the key of its guard
+pub one_found : (low key : Bytes) (keys : List Bytes) (n : ℕ) (d : Bytes) → Ascend low keys → guard_of key keys ≡ suc n → is_guard key keys ≡ key_eq key (get_or keys n d)
+one_found low key [] n d h is = absurd (omega (arith, is))
+one_found low key (k ∷ ks) n d h is = by (key_lt key k) is (λ m. one_found k key ks m d h.1)
+  where
+    other : (m : ℕ) → guard_of key ks ≡ suc m → key_eq key k ≡ false
+    other m is = other_key key k (λ same. let none : guard_of key ks ≡ 0 = ap (λ x. guard_of x ks) same ∙ behind_key k ks h.1 in absurd (omega (arith, is, none)))
+
+    at : (n : ℕ) → guard_of key ks ≡ n → ((m : ℕ) → guard_of key ks ≡ suc m → is_guard key ks ≡ key_eq key (get_or ks m d))
+        → (key_eq key k || is_guard key ks) ≡ key_eq key (get_or (k ∷ ks) n d)
+    at zero is on = rw (none_found k key ks h.1 is) (or-false (key_eq key k))
+    at (suc m) is on = rw (other m is) (on m is)
+
+    by : (b : Bool) → (if b then 0 else suc (guard_of key ks)) ≡ suc n → ((m : ℕ) → guard_of key ks ≡ suc m → is_guard key ks ≡ key_eq key (get_or ks m d))
+        → (key_eq key k || is_guard key ks) ≡ key_eq key (get_or (k ∷ ks) n d)
+    by true is on = absurd (omega (arith, is))
+    by false is on = at n (omega (arith, is)) on

@@ -73,6 +73,10 @@ insert_same xs zero x d within = refl
 insert_same [] (suc i) x d within = absurd (omega (arith, within))
 insert_same (y ∷ ys) (suc i) x d within = insert_same ys i x d (omega (arith, within))
 
+-- what is read at the place of an insertion
+pub inserted : {X : Type 0} (xs ys : List X) (i : ℕ) (x d : X) → ys ≡ insert xs i x → i ≤ length xs → d ≡ get_or ys i d → d ≡ x
+inserted xs ys i x d is within read = read ∙ ap (λ zs. get_or zs i d) is ∙ insert_same xs i x d within
+
 insert_behind : {X : Type 0} (xs : List X) (i h : ℕ) (x d : X) → i ≤ h → i ≤ length xs → get_or (insert xs i x) (suc h) d ≡ get_or xs h d
 insert_behind xs zero h x d behind within = refl
 insert_behind [] (suc i) h x d behind within = absurd (omega (arith, within))

@@ -1,7 +1,7 @@
 -- The guards of a level.
-use Rattle.std.specs.Prelude.{◌≡◌, ℕ, suc, true, Bool, false, ◌||◌, if◌then◌else◌, List, [], ◌∷◌, ◌++◌, length, set, get_or}
+use Rattle.std.specs.Prelude.{◌≡◌, ℕ, suc, true, if◌then◌else◌, List, [], ◌∷◌, ◌++◌, length, set, get_or}
 use Rattle.std.specs.List.{AllByRecursion, insert}
-use Rattle.peb_base.specs.Keys.{Bytes, key_lt, key_le, key_eq}
+use Rattle.peb_base.specs.Keys.{Bytes, key_lt}
 use Rattle.peb_base.specs.Guards.{Ascend, guard_of, is_guard, LiesIn}
 use Rattle.peb_base.specs.declared.entry.Entry.{Entry}
 use Rattle.peb_base.specs.declared.table_row.TableRow.{TableRow}

@@ -6,6 +6,7 @@ ghost use Rattle.guard_level.specs.TableLists.{below, above, IsAbsent, TakesFrom
 ghost use Rattle.peb_base.specs.Guards.{Ascend, guard_of, is_guard, LiesIn};
 ghost use Rattle.guard_level.specs.Guards.{tables_of, with_table, cut_at, IsUncut, Takes, IsCopy};
 
+use crate::keys::Keys;
 use crate::tables::Tables;
 use peb_base::{Key, Memory, TableLike, is_below};
 use std::alloc::Global;
@@ -18,7 +19,7 @@ use std::marker::Model;
 #[derive(Drop)]
 pub struct Level<T: TableLike> {
     alloc: Global,
-    keys: Vec<Key>,
+    keys: Keys,
     sentinel: Tables<T>,
     guards: Vec<Tables<T>>,
 }
@@ -30,13 +31,13 @@ impl<T: TableLike> Model for Level<T> {
     ghost Value = { Guards T };
 
     ghost view = { λ level. record {
-      keys = level.keys.items;
+      keys = level.keys;
       tables =
           level.sentinel ∷ level.guards.items;
     } };
 
     ghost invariant = { λ level. IsLevel T.HasRow.the_row
-        (record { keys = level.keys.items; tables = level.sentinel ∷ level.guards.items }) };
+        (record { keys = level.keys; tables = level.sentinel ∷ level.guards.items }) };
 }
 
 impl<T: TableLike + Drop> Level<T> {
@@ -47,7 +48,7 @@ impl<T: TableLike + Drop> Level<T> {
     {
         Level {
             alloc,
-            keys: Vec::new(alloc),
+            keys: Keys::new(),
             sentinel: Tables::new(alloc),
             guards: Vec::new(alloc),
         }
@@ -58,7 +59,7 @@ impl<T: TableLike + Drop> Level<T> {
         ensures keys { result.now ≡ self.now.keys }
         ensures ascend { Ascend [] self.now.keys }
     {
-        self.keys.as_slice()
+        self.keys.items()
     }
 
     /// The guard that a key belongs to, from 0 for the sentinel to the number of guard keys.
@@ -66,7 +67,7 @@ impl<T: TableLike + Drop> Level<T> {
         ensures guard { result ≡ guard_of key.now self.now.keys }
         ensures within { result ≤ length self.now.keys }
     {
-        find_guard(&self.keys, key)
+        find_guard(self.keys.items(), key)
     }
 
     /// Lends the tables of a guard in the order in which they were appended. The
@@ -93,7 +94,7 @@ impl<T: TableLike + Drop> Level<T> {
         ensures err { OnErr result (self.new ≡ self.old) }
         ensures back { IfErr result (λ back. back ≡ table) }
     {
-        let guard = find_guard(&self.keys, table.row().smallest.bytes());
+        let guard = find_guard(self.keys.items(), table.row().smallest.bytes());
         if guard == 0 {
             return self.sentinel.push(table);
         }
@@ -124,24 +125,32 @@ impl<T: TableLike + Drop> Level<T> {
         ensures ok { OnOk result (self.new ≡ cut_at T.HasRow.the_row key self.old) }
         ensures err { OnErr result (self.new ≡ self.old) }
     {
-        let guard = find_guard(&self.keys, key.bytes());
-        if is_key(&self.keys, key.bytes()) {
+        let guard = find_guard(self.keys.items(), key.bytes());
+        if is_key(self.keys.items(), guard, key.bytes()) {
             return Ok(());
         }
-        self.keys.reserve(1)?;
+        let room = room_in(&self.sentinel, &self.guards, guard)?;
         self.guards.reserve(1)?;
-        let given = split_guard(&mut self.sentinel, &mut self.guards, guard, key.bytes())?;
-        self.keys.insert(guard, key)?;
+        self.keys.insert(self.alloc, guard, key)?;
+        let key = &self.keys.items()[guard];
+        let given = split_guard(
+            &mut self.sentinel,
+            &mut self.guards,
+            guard,
+            key.bytes(),
+            room,
+        );
         self.guards.insert(guard, given)?;
         Ok(())
     }
 
-    /// A level with the same guard keys, in which each table is shared.
+    /// A level with the same guard keys, in which each table is shared: the keys are shared
+    /// too, until one of the levels is cut.
     pub fn copy(&self) -> Result<Level<T>, Memory>
         ensures { IfOk result (λ copy. IsCopy T.HasRow.the_row T.HasRow.holds self.now copy) }
     {
         let sentinel = self.sentinel.share()?;
-        let keys = copy_keys(self.alloc, &self.keys)?;
+        let keys = self.keys.share()?;
         let guards = share_all(self.alloc, &self.guards)?;
         Ok(Level {
             alloc: self.alloc,
@@ -168,50 +177,55 @@ fn take_from<T: TableLike + Drop>(guards: &mut Vec<Tables<T>>, number: u64) -> O
     None
 }
 
-/// Whether the key is one of these.
-fn is_key(keys: &[Key], key: &[u8]) -> bool
+/// Whether the key, whose guard this is, is one of these, which ascend.
+fn is_key(keys: &[Key], guard: usize, key: &[u8]) -> bool
+    requires ascend { Ascend [] keys.now }
+    requires guard { guard ≡ guard_of key.now keys.now }
+    requires within { guard ≤ length keys.now }
     ensures { result ≡ is_guard key.now keys.now }
 {
-    for guard in keys {
-        if key == guard.bytes() {
-            return true;
-        }
-    }
-    false
+    guard > 0 && key == keys[guard - 1].bytes()
 }
 
-/// Splits the tables of a guard at a key. For want of memory nothing changes.
+/// Room for the tables of a guard.
+fn room_in<T: TableLike + Drop>(
+    sentinel: &Tables<T>,
+    guards: &[Tables<T>],
+    guard: usize,
+) -> Result<Vec<T>, Memory>
+    requires { guard ≤ length guards.now }
+    ensures none { IfOk result (λ room. vec_len room ≡ 0) }
+    ensures room { IfOk result
+        (λ room. length (get_or (sentinel.now ∷ guards.now) guard []) ≤ vec_capacity room) }
+{
+    if guard == 0 {
+        return sentinel.room();
+    }
+    guards[guard - 1].room()
+}
+
+/// Splits the tables of a guard at a key.
 fn split_guard<T: TableLike + Drop>(
     sentinel: &mut Tables<T>,
     guards: &mut Vec<Tables<T>>,
     guard: usize,
     key: &[u8],
-) -> Result<Tables<T>, Memory>
-    requires { guard ≤ vec_len guards.old }
-    ensures kept { OnOk result (sentinel.new ∷ guards.new.items
-        ≡ set (sentinel.old ∷ guards.old.items) guard (below T.HasRow.the_row key.now (get_or (sentinel.old ∷ guards.old.items) guard []))) }
-    ensures given { IfOk result
-        (λ given. given
-        ≡ above T.HasRow.the_row key.now (get_or (sentinel.old ∷ guards.old.items) guard [])) }
-    ensures err { OnErr result (sentinel.new ∷ guards.new.items ≡ sentinel.old ∷ guards.old.items) }
+    room: Vec<T>,
+) -> Tables<T>
+    requires guard { guard ≤ vec_len guards.old }
+    requires none { vec_len room ≡ 0 }
+    requires room { length (get_or (sentinel.old ∷ guards.old.items) guard []) ≤ vec_capacity room }
+    ensures kept { sentinel.new ∷ guards.new.items
+        ≡ set (sentinel.old ∷ guards.old.items) guard (below T.HasRow.the_row key.now (get_or (sentinel.old ∷ guards.old.items) guard [])) }
+    ensures given { result
+        ≡ above T.HasRow.the_row key.now (get_or (sentinel.old ∷ guards.old.items) guard []) }
     ensures len { vec_len guards.new ≡ vec_len guards.old }
     ensures room { vec_capacity guards.new ≡ vec_capacity guards.old }
 {
     if guard == 0 {
-        return sentinel.split(key);
+        return sentinel.split(key, room);
     }
-    guards[guard - 1].split(key)
-}
-
-/// Copies of the keys.
-fn copy_keys(alloc: Global, keys: &[Key]) -> Result<Vec<Key>, Memory>
-    ensures { IfOk result (λ copies. copies.items ≡ keys.now) }
-{
-    let mut copies = Vec::with_capacity(alloc, keys.len())?;
-    for key in keys {
-        copies.push(key.copy(alloc)?)?;
-    }
-    Ok(copies)
+    guards[guard - 1].split(key, room)
 }
 
 /// Further handles to the tables of each guard.

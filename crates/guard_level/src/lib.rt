@@ -5,6 +5,7 @@
 //! guard at a new key. It may not know how the lists are kept.
 #![tactic(auto)]
 
+mod keys;
 mod level;
 mod tables;
 #[cfg(test)]

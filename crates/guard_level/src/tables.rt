@@ -67,20 +67,27 @@ impl<T: TableLike + Drop> Tables<T> {
         None
     }
 
-    /// Keeps the tables that begin below the key, and gives those that begin at or above it.
-    ///
-    /// For want of memory nothing changes.
-    pub fn split(&mut self, key: &[u8]) -> Result<Tables<T>, Memory>
-        ensures kept { OnOk result (self.new ≡ below T.HasRow.the_row key.now self.old) }
-        ensures given { IfOk result (λ given. given ≡ above T.HasRow.the_row key.now self.old) }
-        ensures err { OnErr result (self.new ≡ self.old) }
+    /// Room for so many tables as there are.
+    pub fn room(&self) -> Result<Vec<T>, Memory>
+        ensures none { IfOk result (λ room. vec_len room ≡ 0) }
+        ensures room { IfOk result (λ room. length self.now ≤ vec_capacity room) }
     {
-        let mut given = Vec::with_capacity(self.alloc, self.items.len())?;
-        move_above(&mut self.items, key, &mut given);
-        Ok(Tables {
+        Ok(Vec::with_capacity(self.alloc, self.items.len())?)
+    }
+
+    /// Keeps the tables that begin below the key, and gives those that begin at or above it, for all of which
+    /// there is room.
+    pub fn split(&mut self, key: &[u8], mut room: Vec<T>) -> Tables<T>
+        requires none { vec_len room ≡ 0 }
+        requires room { length self.old ≤ vec_capacity room }
+        ensures kept { self.new ≡ below T.HasRow.the_row key.now self.old }
+        ensures given { result ≡ above T.HasRow.the_row key.now self.old }
+    {
+        move_above(&mut self.items, key, &mut room);
+        Tables {
             alloc: self.alloc,
-            items: given,
-        })
+            items: room,
+        }
     }
 
     /// Further handles to all tables.

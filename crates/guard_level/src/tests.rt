@@ -116,7 +116,7 @@ fn tables_in_their_guards(rt: HostRuntime) -> Result<(), Fail> {
     assert_eq!(rt; level.keys().len(), 2);
     assert_eq!(rt; level.keys()[0].bytes(), b"g".as_slice());
     append(&rt, &mut level, table(alloc, 4, b"g", b"p")?)?;
-    let copy = level.copy()?;
+    let mut copy = level.copy()?;
     assert_eq!(rt; copy.keys().len(), 2);
     assert_eq!(rt; copy.tables_of(0).len(), 2);
     assert_eq!(rt; copy.tables_of(0)[1].row().number, 3);
@@ -126,5 +126,9 @@ fn tables_in_their_guards(rt: HostRuntime) -> Result<(), Fail> {
     assert_eq!(rt; level.take(2).ok_or("no table")?.row().number, 2);
     assert!(rt; matches!(level.take(2), None));
     assert_eq!(rt; level.tables_of(2).len(), 0);
+    cut(&rt, &mut copy, Key::new(alloc, b"z")?)?;
+    cut(&rt, &mut copy, Key::new(alloc, b"y")?)?;
+    assert_eq!(rt; (copy.keys().len(), level.keys().len()), (4, 2));
+    assert_eq!(rt; copy.keys()[2].bytes(), b"y".as_slice());
     Ok(())
 }

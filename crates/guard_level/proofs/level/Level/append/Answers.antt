@@ -8,7 +8,7 @@ pub invariant_of-self : goal.invariant_of-self
 invariant_of-self g c =
     let row = g.T.HasRow.the_row in
     let t = c.args.table in
-    let old : Guards _ = record { keys = c.self.inside.keys.items; tables = c.self.inside.sentinel ∷ c.self.inside.guards.items } in
+    let old : Guards _ = record { keys = c.self.inside.keys; tables = c.self.inside.sentinel ∷ c.self.inside.guards.items } in
     let is : 0 ≡ guard_of (row t).smallest old.keys = search rules in
     let lies = subst (λ level. LiesIn level.keys (guard_of (row t).smallest level.keys) (row t)) (sym c.self.view_is) c.requires in
     pushed_in row t old 0 c.push.new.self c.self.invariant is lies (pushed_or_not c.push.result c.self.inside.sentinel c.push.new.self t c.push.ensures.ok c.push.ensures.err)
@@ -21,7 +21,7 @@ invariant_of-self-2 g c =
     let guards = c.self.inside.guards.items in
     let guard = c.find_guard-guard.result in
     let new = c.push-2.new.self in
-    let old : Guards _ = record { keys = c.self.inside.keys.items; tables = sentinel ∷ guards } in
+    let old : Guards _ = record { keys = c.self.inside.keys; tables = sentinel ∷ guards } in
     let is : guard ≡ guard_of (row t).smallest old.keys = search rules in
     let lies = subst (λ level. LiesIn level.keys (guard_of (row t).smallest level.keys) (row t)) (sym c.self.view_is) c.requires in
     let within : guard - 1 < length guards = search rules in
