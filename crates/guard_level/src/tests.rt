@@ -116,7 +116,7 @@ fn tables_in_their_guards(rt: HostRuntime) -> Result<(), Fail> {
     assert_eq!(rt; level.keys().len(), 2);
     assert_eq!(rt; level.keys()[0].bytes(), b"g".as_slice());
     append(&rt, &mut level, table(alloc, 4, b"g", b"p")?)?;
-    let mut copy = level.copy()?;
+    let copy = level.copy()?;
     assert_eq!(rt; copy.keys().len(), 2);
     assert_eq!(rt; copy.tables_of(0).len(), 2);
     assert_eq!(rt; copy.tables_of(0)[1].row().number, 3);
@@ -126,9 +126,21 @@ fn tables_in_their_guards(rt: HostRuntime) -> Result<(), Fail> {
     assert_eq!(rt; level.take(2).ok_or("no table")?.row().number, 2);
     assert!(rt; matches!(level.take(2), None));
     assert_eq!(rt; level.tables_of(2).len(), 0);
-    cut(&rt, &mut copy, Key::new(alloc, b"z")?)?;
-    cut(&rt, &mut copy, Key::new(alloc, b"y")?)?;
-    assert_eq!(rt; (copy.keys().len(), level.keys().len()), (4, 2));
-    assert_eq!(rt; copy.keys()[2].bytes(), b"y".as_slice());
+    Ok(())
+}
+
+/// How many guard keys a level has after a cut of its copy, and how many the copy.
+fn keys_after_a_cut_of_a_copy(rt: &impl Abort, alloc: Global) -> Result<(usize, usize), Fail> {
+    let mut level = Level::new(alloc);
+    cut(rt, &mut level, Key::new(alloc, b"g")?)?;
+    let mut copy = level.copy()?;
+    cut(rt, &mut copy, Key::new(alloc, b"m")?)?;
+    Ok((level.keys().len(), copy.keys().len()))
+}
+
+#[test]
+fn a_level_shows_no_cut_of_its_copy(rt: HostRuntime) -> Result<(), Fail> {
+    let keys = keys_after_a_cut_of_a_copy(&rt, rt.alloc())?;
+    assert_eq!(rt; keys, (1, 2));
     Ok(())
 }

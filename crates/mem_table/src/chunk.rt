@@ -6,6 +6,7 @@ ghost use Rattle.peb_base.specs.Entries.{AreSorted, IsEntry, comes_before, first
 ghost use Rattle.peb_base.specs.Sorting.{IsApart};
 ghost use Rattle.peb_base.specs.SortedParts.{all_before};
 
+use crate::handles::share_all;
 use peb_base::{Entry, Memory, Number, is_before};
 use std::alloc::Global;
 use std::marker::Model;
@@ -104,18 +105,7 @@ impl Chunk {
         requires within { to ≤ length self.now }
         ensures { IfOk result (λ part. part ≡ take (to - from) (drop from self.now)) }
     {
-        let entries = share(alloc, &self.entries[from..to])?;
+        let entries = share_all(alloc, &self.entries[from..to], Chunk::MOST)?;
         Ok(Chunk { entries })
     }
-}
-
-/// Further handles to entries.
-fn share(alloc: Global, entries: &[Arc<Entry, Global>]) -> Result<Vec<Arc<Entry, Global>>, Memory>
-    ensures { IfOk result (λ shared. map arc_value shared.items ≡ map arc_value entries.now) }
-{
-    let mut shared = Vec::with_capacity(alloc, Chunk::MOST)?;
-    for entry in entries {
-        shared.push(Arc::try_clone(entry)?)?;
-    }
-    Ok(shared)
 }

@@ -12,6 +12,7 @@ ghost use Rattle.peb_base.specs.SortedParts.{all_before};
 ghost use Rattle.mem_table.specs.Spots.{IsSpot, place_of};
 
 use crate::chunk::Chunk;
+use crate::handles::share_all;
 use crate::spot::Spot;
 use peb_base::{Entry, Memory, Number, is_before};
 use std::alloc::Global;
@@ -54,7 +55,7 @@ impl Chunks {
         ensures same { IfOk result (λ copy. copy ≡ self.now) }
         ensures sorted { AreSorted (joined self.now) }
     {
-        let list = share(alloc, &self.list)?;
+        let list = share_all(alloc, &self.list, self.list.len())?;
         Ok(Chunks { list })
     }
 
@@ -313,15 +314,4 @@ fn put_in_half(low: &mut Chunk, high: &mut Chunk, entry: Arc<Entry, Global>) -> 
     } else {
         high.put(entry)
     }
-}
-
-/// Further handles to chunks.
-fn share(alloc: Global, list: &[Arc<Chunk, Global>]) -> Result<Vec<Arc<Chunk, Global>>, Memory>
-    ensures { IfOk result (λ shared. map arc_value shared.items ≡ map arc_value list.now) }
-{
-    let mut shared = Vec::with_capacity(alloc, list.len())?;
-    for chunk in list {
-        shared.push(Arc::try_clone(chunk)?)?;
-    }
-    Ok(shared)
 }

@@ -9,6 +9,7 @@
 mod chunk;
 mod chunks;
 mod entries;
+mod handles;
 mod lending;
 mod mem_cursor;
 mod mem_table;

@@ -185,7 +185,8 @@ fn digits(entry: &EntryRef<'_>) -> u64 {
     entry.number().count() * 10 + u64::from(digit)
 }
 
-/// A table with one batch, a view of it, and a second batch: the view, a view of all, and the size of all.
+/// A table with one batch, a view of it, and a second batch: a copy of the view, a view of all, and
+/// the size of all.
 fn two_batches(alloc: Global) -> Result<(MemView, MemView, u64), Memory> {
     let mut first = Batch::new(alloc);
     first.put(b"a", b"1").map_err(|_| Memory)?;
@@ -197,7 +198,7 @@ fn two_batches(alloc: Global) -> Result<(MemView, MemView, u64), Memory> {
     insert(&mut table, &first, 1)?;
     let before = table.snapshot()?;
     insert(&mut table, &second, 2)?;
-    Ok((before, table.snapshot()?, table.size()))
+    Ok((before.copy()?, table.snapshot()?, table.size()))
 }
 
 #[test]
