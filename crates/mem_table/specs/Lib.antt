@@ -1,4 +1,5 @@
 pub mod Chunked
+pub mod Held
 pub mod Seen
 pub mod SeenLaws
 pub mod SpotLaws

@@ -7,7 +7,8 @@ ghost use Rattle.peb_base.specs.Sorting.{IsApart};
 ghost use Rattle.peb_base.specs.SortedParts.{all_before};
 
 use crate::handles::share_all;
-use peb_base::{Entry, Memory, Number, is_before};
+use crate::held_entry::HeldEntry;
+use peb_base::{Memory, Number, is_before};
 use std::alloc::Global;
 use std::marker::Model;
 use std::sync::Arc;
@@ -15,7 +16,7 @@ use std::sync::Arc;
 /// One to 128 entries in order, each shared.
 #[derive(Drop)]
 pub struct Chunk {
-    entries: Vec<Arc<Entry, Global>>,
+    entries: Vec<Arc<HeldEntry, Global>>,
 }
 
 impl Model for Chunk {
@@ -36,7 +37,7 @@ impl Chunk {
     pub const MOST: usize = 128;
 
     /// A chunk of one entry.
-    pub fn of(alloc: Global, entry: Arc<Entry, Global>) -> Result<Chunk, Memory>
+    pub fn of(alloc: Global, entry: Arc<HeldEntry, Global>) -> Result<Chunk, Memory>
         requires { IsEntry (arc_value entry) }
         ensures { IfOk result (λ chunk. chunk ≡ arc_value entry ∷ []) }
     {
@@ -56,7 +57,7 @@ impl Chunk {
     }
 
     /// Lends an entry.
-    pub fn entry(&self, at: usize) -> &Entry
+    pub fn entry(&self, at: usize) -> &HeldEntry
         requires { at < length self.now }
         ensures { slice_get self.now at ≡ Some result.now }
     {
@@ -68,7 +69,7 @@ impl Chunk {
         ensures { result ≡ all_before key.now number self.now }
     {
         let last = &self.entries[self.entries.len() - 1];
-        is_before(last.key.bytes(), last.number.packed(), key, number.packed())
+        is_before(last.key(), last.number().packed(), key, number.packed())
     }
 
     /// The place of the first entry at or behind this key and number, or the length
@@ -79,22 +80,22 @@ impl Chunk {
         let number = number.packed();
         let entries = self.entries.as_slice();
         entries.partition_point(
-            |entry: &Arc<Entry, Global>| -> bool
+            |entry: &Arc<HeldEntry, Global>| -> bool
                 ensures { result ≡ comes_before (arc_value entry.now).key
                     (arc_value entry.now).number key.entry.now number }
-            { is_before(entry.key.bytes(), entry.number.packed(), key, number) },
+            { is_before(entry.key(), entry.number().packed(), key, number) },
         )
     }
 
     /// Puts an entry, which is apart from the others, in its place.
-    pub fn put(&mut self, entry: Arc<Entry, Global>) -> Result<(), Memory>
+    pub fn put(&mut self, entry: Arc<HeldEntry, Global>) -> Result<(), Memory>
         requires room { length self.old < 128 }
         requires entry { IsEntry (arc_value entry) }
         requires apart { IsApart (arc_value entry) self.old }
         ensures ok { OnOk result (self.new ≡ put_in (arc_value entry) self.old) }
         ensures err { OnErr result (self.new ≡ self.old) }
     {
-        let at = self.place(entry.key.bytes(), entry.number);
+        let at = self.place(entry.key(), entry.number());
         self.entries.insert(at, entry)?;
         Ok(())
     }

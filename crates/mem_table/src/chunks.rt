@@ -13,8 +13,9 @@ ghost use Rattle.mem_table.specs.Spots.{IsSpot, place_of};
 
 use crate::chunk::Chunk;
 use crate::handles::share_all;
+use crate::held_entry::HeldEntry;
 use crate::spot::Spot;
-use peb_base::{Entry, Memory, Number, is_before};
+use peb_base::{Memory, Number, is_before};
 use std::alloc::Global;
 use std::marker::Model;
 use std::sync::Arc;
@@ -40,7 +41,7 @@ impl Model for Chunks {
 
 impl Chunks {
     /// One chunk of one entry.
-    pub fn of(alloc: Global, entry: Arc<Entry, Global>) -> Result<Chunks, Memory>
+    pub fn of(alloc: Global, entry: Arc<HeldEntry, Global>) -> Result<Chunks, Memory>
         requires { IsEntry (arc_value entry) }
         ensures { IfOk result (λ chunks. chunks ≡ (arc_value entry ∷ []) ∷ []) }
     {
@@ -61,7 +62,7 @@ impl Chunks {
 
     /// Puts an entry, which is apart from the others, in its place: where the chunk that it goes into is
     /// full, it is cut in half, and else it is written in place where nobody else holds it.
-    pub fn put(&mut self, alloc: Global, entry: Arc<Entry, Global>) -> Result<(), Memory>
+    pub fn put(&mut self, alloc: Global, entry: Arc<HeldEntry, Global>) -> Result<(), Memory>
         requires entry { IsEntry (arc_value entry) }
         requires apart { IsApart (arc_value entry) (joined self.old) }
         ensures ok { OnOk result (joined self.new ≡ put_in (arc_value entry) (joined self.old)) }
@@ -80,13 +81,13 @@ impl Chunks {
     }
 
     /// The index of the chunk that an entry goes into.
-    fn index_for(&self, entry: &Entry) -> usize
+    fn index_for(&self, entry: &HeldEntry) -> usize
         requires { IsApart entry.now (joined self.now) }
         ensures within { result < length self.now }
         ensures there { put_in entry.now (joined self.now)
             ≡ joined (set self.now result (put_in entry.now (get_or self.now result []))) }
     {
-        let index = self.index_from(entry.key.bytes(), entry.number);
+        let index = self.index_from(entry.key(), entry.number());
         index.min(self.count() - 1)
     }
 
@@ -142,7 +143,7 @@ impl Chunks {
     }
 
     /// The first entry of a key numbered at most `number`, which is its newest one.
-    pub fn find(&self, key: &[u8], number: Number) -> Option<&Entry>
+    pub fn find(&self, key: &[u8], number: Number) -> Option<&HeldEntry>
         ensures { option_copied result
             ≡ find (λ e. key_eq e.key key.now && nat_le e.number number) (joined self.now) }
     {
@@ -150,7 +151,7 @@ impl Chunks {
             return None;
         };
         let entry = self.entry(spot);
-        if entry.key.bytes() == key {
+        if entry.key() == key {
             Some(entry)
         } else {
             None
@@ -158,7 +159,7 @@ impl Chunks {
     }
 
     /// Lends the entry at a place.
-    pub fn entry(&self, spot: Spot) -> &Entry
+    pub fn entry(&self, spot: Spot) -> &HeldEntry
         requires { IsSpot self.now spot }
         ensures { slice_get (joined self.now) (place_of self.now spot) ≡ Some result.now }
     {
@@ -254,7 +255,7 @@ pub fn share_chunks(chunks: &Arc<Chunks, Global>) -> Result<Arc<Chunks, Global>,
 fn put_in_chunk(
     alloc: Global,
     chunk: &mut Arc<Chunk, Global>,
-    entry: Arc<Entry, Global>,
+    entry: Arc<HeldEntry, Global>,
 ) -> Result<(), Memory>
     requires room { length (arc_value chunk.old) < 128 }
     requires entry { IsEntry (arc_value entry) }
@@ -276,7 +277,7 @@ fn put_in_chunk(
 fn halves(
     alloc: Global,
     chunk: &Chunk,
-    entry: Arc<Entry, Global>,
+    entry: Arc<HeldEntry, Global>,
 ) -> Result<(Arc<Chunk, Global>, Arc<Chunk, Global>), Memory>
     requires full { 128 ≤ length chunk.now }
     requires entry { IsEntry (arc_value entry) }
@@ -294,7 +295,11 @@ fn halves(
 }
 
 /// Puts an entry, which is apart from the others, into the one of two chunks that it belongs to.
-fn put_in_half(low: &mut Chunk, high: &mut Chunk, entry: Arc<Entry, Global>) -> Result<(), Memory>
+fn put_in_half(
+    low: &mut Chunk,
+    high: &mut Chunk,
+    entry: Arc<HeldEntry, Global>,
+) -> Result<(), Memory>
     requires low { length low.old < 128 }
     requires high { length high.old < 128 }
     requires some { 0 < length high.old }
@@ -305,10 +310,10 @@ fn put_in_half(low: &mut Chunk, high: &mut Chunk, entry: Arc<Entry, Global>) -> 
 {
     let first = high.entry(0);
     if is_before(
-        entry.key.bytes(),
-        entry.number.packed(),
-        first.key.bytes(),
-        first.number.packed(),
+        entry.key(),
+        entry.number().packed(),
+        first.key(),
+        first.number().packed(),
     ) {
         low.put(entry)
     } else {

@@ -12,9 +12,9 @@ ghost use Rattle.mem_table.specs.Chunked.{joined};
 ghost use Rattle.mem_table.specs.Spots.{IsSpot, place_of};
 
 use crate::chunks::{Chunks, share_chunks};
-use crate::lending::lend;
+use crate::held_entry::HeldEntry;
 use crate::spot::Spot;
-use peb_base::{Entry, EntryRef, Memory, Number};
+use peb_base::{EntryRef, Memory, Number};
 use std::alloc::Global;
 use std::marker::Model;
 use std::sync::Arc;
@@ -92,7 +92,7 @@ impl Entries {
 
     /// Puts an entry, which is apart from the others, in its place, and
     /// shows the further handles nothing of it.
-    pub fn put(&mut self, alloc: Global, entry: Arc<Entry, Global>) -> Result<(), Memory>
+    pub fn put(&mut self, alloc: Global, entry: Arc<HeldEntry, Global>) -> Result<(), Memory>
         requires entry { IsEntry (arc_value entry) }
         requires apart { IsApart (arc_value entry) (joined self.old) }
         ensures ok { OnOk result (joined self.new ≡ put_in (arc_value entry) (joined self.old)) }
@@ -118,7 +118,7 @@ impl Entries {
             return None;
         };
         match chunks.find(key, number) {
-            Some(entry) => Some(lend(entry)),
+            Some(entry) => Some(entry.lend()),
             None => None,
         }
     }
@@ -192,7 +192,7 @@ impl Entries {
         let Some(chunks) = &self.chunks else {
             return None;
         };
-        Some(lend(chunks.entry(spot)))
+        Some(chunks.entry(spot).lend())
     }
 }
 
@@ -201,7 +201,7 @@ impl Entries {
 fn put_in_chunks(
     alloc: Global,
     chunks: &mut Arc<Chunks, Global>,
-    entry: Arc<Entry, Global>,
+    entry: Arc<HeldEntry, Global>,
 ) -> Result<(), Memory>
     requires entry { IsEntry (arc_value entry) }
     requires apart { IsApart (arc_value entry) (joined (arc_value chunks.old)) }

@@ -10,7 +10,7 @@ mod chunk;
 mod chunks;
 mod entries;
 mod handles;
-mod lending;
+mod held_entry;
 mod mem_cursor;
 mod mem_table;
 mod mem_view;

@@ -5,7 +5,7 @@ ghost use Rattle.peb_base.specs.Batches.{numbered};
 ghost use Rattle.peb_base.specs.Entries.{AreSorted, in_order, size_of};
 
 use crate::entries::Entries;
-use crate::lending::{entry_for, entry_size};
+use crate::held_entry::HeldEntry;
 use crate::mem_view::MemView;
 use peb_base::{Batch, Memory, Number, Op};
 use std::alloc::Global;
@@ -83,8 +83,8 @@ impl MemTable {
         ensures ok { OnOk result (self.new ≡ in_order (self.old ++ numbered number (op.now ∷ []))) }
         ensures err { OnErr result (self.new ≡ self.old) }
     {
-        let entry = entry_for(self.alloc, op, number)?;
-        let bytes = entry_size(&entry);
+        let entry = HeldEntry::of(self.alloc, op, number)?;
+        let bytes = entry.size();
         self.entries.put(self.alloc, entry)?;
         self.size = self.size.saturating_add(bytes);
         Ok(())
@@ -101,8 +101,8 @@ impl MemTable {
         let mut size = self.size;
         for (at, op) in ops.iter().enumerate() {
             let number = Number::of_packed(first.packed() + at as u64);
-            let entry = entry_for(self.alloc, op, number)?;
-            size = size.saturating_add(entry_size(&entry));
+            let entry = HeldEntry::of(self.alloc, op, number)?;
+            size = size.saturating_add(entry.size());
             entries.put(self.alloc, entry)?;
         }
         self.entries = entries;

@@ -15,7 +15,7 @@ insert-requires c =
     let items = c.self.inside.entries.items in
     omega (
       arith,
-      first_from-bound c.bytes.result.now c.deref-2.result.now.number c.args.self.now,
+      first_from-bound c.key.result.now c.number.result c.args.self.now,
       c.place-at.ensures,
       ap length c.self.view_is,
       length-map items arc_value,

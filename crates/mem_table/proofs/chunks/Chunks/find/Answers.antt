@@ -13,7 +13,7 @@ returns-in_default c =
 pub returns-then-eq : goal.returns-then-eq
 returns-then-eq c =
     ap (λ b. cond b (Some c.entry-entry.result.now) None)
-    (c.if-eq.ensures ∙ ap (λ k. key_eq k c.args.key.now) c.bytes.ensures.value)
+    (c.if-eq.ensures ∙ ap (λ k. key_eq k c.args.key.now) c.key.ensures)
     ∙ found_there c.args.key.now c.args.number (joined c.args.self.now)
     (place_of c.args.self.now c.in-Some.spot)
     c.entry-entry.result.now c.in-Some.ensures.sorted c.in-Some.ensures.place c.entry-entry.ensures
@@ -21,7 +21,7 @@ returns-then-eq c =
 pub returns-else-eq : goal.returns-else-eq
 returns-else-eq c =
     ap (λ b. cond b (Some c.entry-entry.result.now) None)
-    (c.if-eq.ensures ∙ ap (λ k. key_eq k c.args.key.now) c.bytes.ensures.value)
+    (c.if-eq.ensures ∙ ap (λ k. key_eq k c.args.key.now) c.key.ensures)
     ∙ found_there c.args.key.now c.args.number (joined c.args.self.now)
     (place_of c.args.self.now c.in-Some.spot)
     c.entry-entry.result.now c.in-Some.ensures.sorted c.in-Some.ensures.place c.entry-entry.ensures

@@ -10,7 +10,8 @@ returns-clause-there c =
     let e : Entry = c.args.entry.now in
     let cs : List (List Entry) = c.args.self.now in
     let from : c.index_from-index.result ≡ chunk_from e.key e.number cs =
-    c.index_from-index.ensures ∙ ap (λ k. chunk_from k e.number cs) c.bytes.ensures.value in
+    c.index_from-index.ensures ∙ ap (λ k. chunk_from k c.number.result cs) c.key.ensures
+    ∙ ap (λ n. chunk_from e.key n cs) c.number.ensures in
     let is : c.min.result ≡ min (chunk_from e.key e.number cs) (length cs - 1) =
     c.min.ensures ∙ ap (λ n. min n (c.count.result - 1)) from
     ∙ ap (λ n. min (chunk_from e.key e.number cs) (n - 1)) c.count.ensures.count in

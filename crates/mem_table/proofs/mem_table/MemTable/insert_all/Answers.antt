@@ -44,8 +44,8 @@ loop-at-preserved c =
           (joined c.put.new.self) c.args.first c.args.ops.now c.loop-at.at
           c.index-ops-at.result e newer c.loop-at.invariant.now within c.index-ops-at.is is c.in_ok-put.ensures.ok;
       sized = size_next (2 ^ 64 - 1) (joined c.loop-at.entries)
-          (joined c.put.new.self) e c.loop-at.size c.entry_size.result
+          (joined c.put.new.self) e c.loop-at.size c.size.result
           c.saturating_add-size.result c.loop-at.invariant.sized
-          (c.entry_size.ensures ∙ ap bytes_of c.deref.ensures)
+          (c.size.ensures ∙ ap bytes_of c.deref.ensures)
           c.saturating_add-size.ensures c.in_ok-put.ensures.ok;
     }

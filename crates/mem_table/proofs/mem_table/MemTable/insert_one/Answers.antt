@@ -27,8 +27,8 @@ pub invariant_of-self-2 : goal.invariant_of-self-2
 invariant_of-self-2 c =
     size_next (2 ^ 64 - 1) (joined c.self.inside.entries) (joined c.put.new.self)
     (arc_value c.in_ok-entry.entry)
-    c.self.inside.size c.entry_size-bytes.result c.saturating_add-self-inside.result c.self.invariant
-    (c.entry_size-bytes.ensures
+    c.self.inside.size c.size-bytes.result c.saturating_add-self-inside.result c.self.invariant
+    (c.size-bytes.ensures
     ∙ ap bytes_of c.deref.ensures) c.saturating_add-self-inside.ensures c.in_ok-put.ensures.ok
 
 pub returns-clause-ok : goal.returns-clause-ok
