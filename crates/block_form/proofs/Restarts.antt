@@ -140,6 +140,22 @@ found_start key number place es lt sorted passed = by (passed here.entry here.go
     by (inl none) = subst (λ n. FoundFrom key number n es) (sym none) (omega arith)
     by (inr before) = passed_front key number [] 0 es place here.entry sorted here.got before
 
+-- what stands no later than the first entry at or behind a key and number has only entries before them in front
+pub found_near : (key : Bytes) (number place : ℕ) (es : List Entry)
+    → place ≤ first_from key number es → FoundFrom key number place es
+found_near key number zero es le = omega arith
+found_near key number (suc place) [] le = absurd (omega (arith, le))
+found_near key number (suc place) (x ∷ es) le =
+    by (comes_before x.key x.number key number) le (found_near key number place es)
+  where
+    by : (b : Bool) → suc place ≤ (if b then suc (first_from key number es) else 0)
+        → (place ≤ first_from key number es
+        → place + first_from key number (drop place es) ≡ first_from key number es)
+        → suc place + first_from key number (drop place es)
+        ≡ (if b then suc (first_from key number es) else 0)
+    by true le deep = omega (arith, deep (omega (arith, le)))
+    by false le deep = absurd (omega (arith, le))
+
 -- the first entry that doesn't come before a key and number stands no later than one that doesn't, or than behind the last
 pub no_later : (key : Bytes) (number : ℕ) (es : List Entry) (n : ℕ)
     → ((e : Entry) → slice_get es n ≡ Some e → comes_before e.key e.number key number ≡ false) → first_from key number es ≤ n

@@ -131,10 +131,35 @@ impl Block<'_> {
         ensures at { result.1 ≡ offset_of result.0 self.now }
         ensures key { (e : Entry) → slice_get self.now result.0 ≡ Some e → key_out.new ≡ e.key }
     {
-        let mut place = self.restart_before(key, number.packed());
-        let mut at = self.go_to_restart(place, key_out);
+        let above = number.packed();
+        let place = self.restart_before(key, above);
+        let at = self.go_to_restart(place, key_out);
+        self.scan(place, at, key, above, key_out)
+    }
+
+    /// Goes on to the first entry at or after this key and number, or behind the last, from an entry at
+    /// most sixteen places before it, of which the key is handed in.
+    fn scan(
+        &self,
+        start: usize,
+        from: usize,
+        key: &[u8],
+        number: u64,
+        key_out: &mut KeyBuf,
+    ) -> (usize, usize)
+        requires place { start < length self.now }
+        requires at { from ≡ offset_of start self.now }
+        requires key { (e : Entry) → slice_get self.now start ≡ Some e → key_out.old ≡ e.key }
+        requires near { (start ≤ first_from key.now number self.now)
+            × (first_from key.now number self.now ≤ start + 16) }
+        ensures place { result.0 ≡ first_from key.now number self.now }
+        ensures at { result.1 ≡ offset_of result.0 self.now }
+        ensures key { (e : Entry) → slice_get self.now result.0 ≡ Some e → key_out.new ≡ e.key }
+    {
+        let mut place = start;
+        let mut at = from;
         'scan: while place < self.count {
-            if !self.is_passed(place, at, key_out.bytes(), key, number.packed()) {
+            if !self.is_passed(place, at, key_out.bytes(), key, number) {
                 return (place, at);
             }
             at = self.step(place, at, key_out);
@@ -282,7 +307,21 @@ impl Block<'_> {
         ensures key { (e : Entry) → slice_get self.now place ≡ Some e → key.new ≡ e.key }
     {
         let start = place - place % 16;
-        let mut at = self.go_to_restart(start, key);
+        let at = self.go_to_restart(start, key);
+        self.walk(start, at, place, key)
+    }
+
+    /// Goes on from an entry, of which the key is handed in, to one at most fifteen places behind it: gives
+    /// where that begins, and leaves its key.
+    fn walk(&self, start: usize, from: usize, place: usize, key: &mut KeyBuf) -> usize
+        requires place { place < length self.now }
+        requires near { (start ≤ place) × (place ≤ start + 15) }
+        requires at { from ≡ offset_of start self.now }
+        requires key { (e : Entry) → slice_get self.now start ≡ Some e → key.old ≡ e.key }
+        ensures at { result ≡ offset_of place self.now }
+        ensures key { (e : Entry) → slice_get self.now place ≡ Some e → key.new ≡ e.key }
+    {
+        let mut at = from;
         for i in start..place {
             at = self.step(i, at, key);
         }

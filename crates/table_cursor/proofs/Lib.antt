@@ -1,4 +1,5 @@
 pub mod Blocks
+pub mod Damage
 pub mod Ends
 pub mod Finding
 pub mod Honest

@@ -1,12 +1,13 @@
 -- Walks from the first entry to the end.
 use Rattle.std.proofs.Common.{◌≡◌, ℕ, zero, suc, ◌<◌, ◌≤◌, ◌∙◌, ◌+◌, inl, inr, List, [], ◌∷◌, ◌++◌, length, take, drop, get_or, append_assoc, subst, Option, Some, None, Result, Err, Bool, true, false, refl, sym, ap, arith}
-use Rattle.std.specs.Prelude.{slice_get, nat_lt, if◌then◌else◌}
+use Rattle.std.specs.Prelude.{slice_get, nat_lt, if◌then◌else◌, IfErr, Ok, ◌⊎◌}
 use Rattle.std.proofs.lemmas.Bool.Decides.{nat_tests}
 use Rattle.std.proofs.Math.Seq.{split_at}
 use Rattle.disk_model.specs.declared.table_handle.TableHandle.{Ghosts}
 use Rattle.peb_base.specs.Cursors.{LeadsTo, IfDamage, OnFault, StandsAmong}
 use Rattle.peb_base.specs.Entries.{AreSorted}
 use Rattle.peb_base.specs.Faults.{Rose}
+use Rattle.peb_base.specs.Keys.{Bytes}
 use Rattle.peb_base.specs.declared.entry.Entry.{Entry}
 use Rattle.peb_base.specs.Tables.{IsRowOf}
 use Rattle.peb_base.specs.declared.limit_kind.LimitKind.TheVariants as kinds
@@ -14,19 +15,22 @@ use Rattle.peb_base.specs.declared.table_row.TableRow.{TableRow}
 use Rattle.peb_base.specs.declared.read_fault.ReadFault.{ReadFault}
 use Rattle.peb_base.specs.declared.read_fault.ReadFault.TheVariants as reads
 use Rattle.table_file.specs.Ascending.{front_ascends}
-use Rattle.table_file.specs.Damages.{IsDamage}
+use Rattle.table_file.specs.Damages.{IsDamage, IsToldAt, IsPlaceByRow}
 use Rattle.table_file.specs.Form.{blocks_of, table_bytes}
 use Rattle.table_file.specs.Holding.{IsOpenedOver}
 use Rattle.table_file.specs.Limits.{index_fault, push_fault, blocks_fault, IsRefused}
-use Rattle.table_file.specs.Opening.{OpensAs}
+use Rattle.table_file.specs.Opening.{OpensAs, AreItems, FitsRow}
 use Rattle.table_file.specs.Tables.{TableParts}
+use Rattle.table_file.specs.declared.index_item.IndexItem.{IndexItem}
 use Rattle.table_file.specs.declared.put_fault.PutFault.{PutFault}
 use Rattle.table_file.specs.declared.put_fault.PutFault.TheVariants as puts
 use Rattle.table_file.specs.declared.table_fault.TableFault.{TableFault}
 use Rattle.table_file.specs.declared.table_fault.TableFault.TheVariants as tables
-use Rattle.table_cursor.specs.Agreeing.{IsDamageAt}
-use Rattle.table_cursor.specs.Trips.{of_read, of_table, TellsDamage, TellsTable, LimitsPut, LimitsTrip, IsRowWritten}
-use Rattle.table_cursor.specs.declared.trip_fault.TripFault.TheVariants.{Fault}
+use Rattle.table_cursor.specs.Agreeing.{IsDamageAt, IsDamageOf}
+use Rattle.table_cursor.specs.IndexLaws.{item_is}
+use Rattle.table_cursor.specs.Trips.{of_read, of_table, TellsDamage, TellsTable, TellsOf, LimitsPut, LimitsTrip, IsRowWritten}
+use Rattle.table_cursor.specs.declared.trip_fault.TripFault.{TripFault}
+use Rattle.table_cursor.specs.declared.trip_fault.TripFault.TheVariants.{Fault, Limit, Damaged, Memory}
 
 -- where a cursor stands, no refused move tells damage
 pub undamaged : (StandsAt : Option ℕ → Type 0) (place : Option ℕ) (why : ReadFault)
@@ -137,3 +141,79 @@ pub opening_unlimited : (full : ℕ) (es : List Entry) (why : TableFault) → Li
 opening_unlimited full es tables.Fault = tt
 opening_unlimited full es (tables.Damaged number at) = tt
 opening_unlimited full es tables.Memory = tt
+
+-- ---- where damage is told
+
+-- damage of a block is damage of its table, also as the table was called before
+pub damage_told : {F : Type 0} (g : Ghosts F) (t was : TableParts F) (index : ℕ) (why : ReadFault)
+    → t ≡ was → IfDamage {T = Unit {0}} (Err why) (IsDamageAt g t index)
+    → TellsOf (IsDamageOf g was) (of_read why)
+damage_told g t was index reads.Fault same damage = tt
+damage_told g t was index (reads.Damaged number at) same damage =
+    record { index = index; is = subst (λ t. IsDamageAt g t index number at) same damage }
+
+-- what tells no damage tells it nowhere
+pub untold : (fact : ℕ → ℕ → Type 0) (why : TripFault) → (TellsDamage why → ⊥) → TellsOf fact why
+untold fact Fault none = tt
+untold fact (Limit kind most) none = tt
+untold fact (Damaged table at) none = absurd (none tt)
+untold fact Memory none = tt
+
+pub none_told : {T : Type 0} (r : Result T TripFault) (fact : ℕ → ℕ → Type 0)
+    → IfErr r (λ why. TellsDamage why → ⊥) → IfErr r (TellsOf fact)
+none_told (Ok x) fact none = tt
+none_told (Err why) fact none = untold fact why none
+
+-- damage that an opening tells at a place
+pub opening_told : (P : ℕ → Type 0) (Q : ℕ → ℕ → Type 0) (why : TableFault)
+    → ((number at : ℕ) → P at → Q number at) → IsToldAt P why → TellsOf Q (of_table why)
+opening_told P Q tables.Fault more told = tt
+opening_told P Q (tables.Damaged number at) more told = more number at told
+opening_told P Q tables.Memory more told = tt
+
+-- the places that a row tells lie within its length
+pub place_within : (row : TableRow) (at : ℕ) → IsPlaceByRow row at → at ≤ row.bytes
+place_within row at (inl none) = omega (arith, none)
+place_within row at (inr (inl by_end)) = by_end.1
+place_within row at (inr (inr (footer, agrees, inl is))) =
+    omega (arith, is, agrees.adjoin, agrees.end)
+place_within row at (inr (inr (footer, agrees, inr is))) = omega (arith, is, agrees.end)
+
+items_end : (place : ℕ) (before : Bytes) (above end : ℕ) (items : List IndexItem)
+    → AreItems place before above end items → place ≤ end
+items_end place before above end [] are = omega (arith, are)
+items_end place before above end (x ∷ items) are =
+    omega (arith, items_end (place + x.len) x.key x.number end items are.1)
+
+-- each block of an index lies in front of the index
+item_within : (place : ℕ) (before : Bytes) (above end : ℕ) (items : List IndexItem) (index : ℕ)
+    (item : IndexItem) → AreItems place before above end items → slice_get items index ≡ Some item
+    → item.place ≤ end
+item_within place before above end [] index item are there = cc
+item_within place before above end (x ∷ items) zero item are there =
+    let same : x.place ≡ item.place = ap (λ (i : IndexItem). i.place) (item_is x item there) in
+    omega (arith, same, are.0.place_is,
+    items_end (place + x.len) x.key x.number end items are.1)
+item_within place before above end (x ∷ items) (suc index) item are there =
+    item_within (place + x.len) x.key x.number end items index item are.1 there
+
+-- damage of a table that was opened lies within the length that its row tells
+pub damage_within : {F T : Type 0} (g : Ghosts F) (t : TableParts F) (row : TableRow)
+    (r : Result T TripFault) → FitsRow row t.items t.filter
+    → IfErr r (TellsOf (IsDamageOf g t)) → IfErr r (TellsOf (λ number at. at ≤ row.bytes))
+damage_within g t row (Ok x) fits told = tt
+damage_within g t row (Err Fault) fits told = tt
+damage_within g t row (Err (Limit kind most)) fits told = tt
+damage_within g t row (Err (Damaged number at)) fits told =
+    omega (arith, told.is.place,
+    item_within 0 [] 0 fits.footer.index t.items told.index told.is.item
+    fits.index.each told.is.indexed, fits.agrees.adjoin, fits.agrees.end)
+damage_within g t row (Err Memory) fits told = tt
+
+-- where a file isn't there damage is told at 0, where it is there none is
+pub gone_or_there : (sealed : Option (List ℕ)) (trip : TripFault)
+    → ((bytes : List ℕ) → sealed ≡ Some bytes → TellsDamage trip → ⊥)
+    → (sealed ≡ None → TellsOf (λ number at. at ≡ 0) trip)
+    → TellsOf (λ number at. at ≡ 0) trip
+gone_or_there None trip there gone = gone refl
+gone_or_there (Some bytes) trip there gone = untold (λ number at. at ≡ 0) trip (there bytes refl)

@@ -48,6 +48,13 @@ TellsTable number (Limit kind most) = Unit {0}
 TellsTable number (Damaged table at) = table ≡ number
 TellsTable number Memory = Unit {0}
 
+-- damage, where it is told, is told of a table's number and a place of which this is true
+abbrev pub TellsOf : (ℕ → ℕ → Type 0) → TripFault → Type 0
+TellsOf fact Fault = Unit {0}
+TellsOf fact (Limit kind most) = Unit {0}
+TellsOf fact (Damaged table at) = fact table at
+TellsOf fact Memory = Unit {0}
+
 -- a table of these entries is refused by this limit: one of them can't be pushed behind those before
 -- it, or the index of all is too long
 abbrev pub PassesLimit : ℕ → List Entry → PutFault → Type 0

@@ -1,11 +1,9 @@
 -- Blocks that were read one after another, and how many steps a cursor has.
 use Rattle.std.proofs.Common.{◌≡◌, ℕ, zero, suc, ◌+◌, ◌-◌, ◌<◌, ◌≤◌, true, List, [], ◌∷◌, ◌++◌, length, take, Some, refl, sym, ap, ◌∙◌, subst, arith, append_assoc, length-append}
 use Rattle.std.specs.Prelude.{slice_get}
-use Rattle.std.specs.Coded.{Unit-prop}
-use Rattle.std.proofs.Props.{props}
 use Rattle.disk_model.specs.declared.table_handle.TableHandle.{Ghosts}
 use Rattle.peb_base.specs.Cursors.{ComesBeforeNone}
-use Rattle.peb_base.specs.Entries.{IsEntry, AreSorted, AscendFrom, comes_before, entry_lt}
+use Rattle.peb_base.specs.Entries.{AreSorted, AscendFrom, comes_before, entry_lt}
 use Rattle.peb_base.specs.EntryLaws.{entry_trans, entry_asym}
 use Rattle.peb_base.specs.Keys.{Bytes}
 use Rattle.peb_base.specs.Tables.{first_key, last_key}
@@ -21,25 +19,6 @@ use Rattle.table_cursor.specs.Page.{Reading}
 use Rattle.table_cursor.specs.Walking.{CanBeRead, ReadInOrder, by_entries, blocks_passed, WalkedOver, most_steps, steps_ahead, steps_back}
 
 -- ---- sorted entries
-
-pub AscendFrom-prop : (key : Bytes) (number : ℕ) (es : List Entry)
-    → IsProp (AscendFrom key number es)
-AscendFrom-prop key number [] = Unit-prop
-AscendFrom-prop key number (e ∷ es) =
-    let entry : IsProp (IsEntry e) = Prim.hlevel props in
-    let after : IsProp (comes_before key number e.key e.number ≡ true) = Prim.hlevel props in
-    λ x y i. (entry x.0 y.0 i, after x.1 y.1 i, AscendFrom-prop e.key e.number es x.2 y.2 i)
-
--- each of sorted entries is within its limits
-pub entry_within : (key : Bytes) (number : ℕ) (es : List Entry) (place : ℕ) (e : Entry)
-    → AscendFrom key number es → slice_get es place ≡ Some e → IsEntry e
-entry_within key number [] place e each there = cc
-entry_within key number (x ∷ es) zero e each there = subst IsEntry (entry_is x e there) each.0
-  where
-    entry_is : (a b : Entry) → Some a ≡ Some b → a ≡ b
-    entry_is a b same = cc
-entry_within key number (x ∷ es) (suc place) e each there =
-    entry_within x.key x.number es place e each.2 there
 
 -- an entry behind sorted ones comes before none of them
 pub behind_all : (key : Bytes) (number : ℕ) (es : List Entry) (e : Entry)

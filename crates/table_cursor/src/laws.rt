@@ -1,10 +1,11 @@
-//! Laws of walks over tables. Each function runs nothing but a count of blocks; its contract is the law.
+//! Laws of walks over tables. Each function runs nothing but a count of blocks; its contract is the
+//! law.
 
-ghost use Rattle.std.specs.Prelude.{◌≡◌, ◌++◌, ◌∷◌, [], ℕ, List, Option, Some, None};
+ghost use Rattle.std.specs.Prelude.{◌≡◌, ◌++◌, ◌∷◌, [], ℕ, List, Option, IsTrue, Some, None};
 ghost use Rattle.peb_base.specs.Entries.{AreSorted};
 ghost use Rattle.peb_base.specs.declared.entry.Entry.{Entry};
-ghost use Rattle.table_cursor.specs.Walking.{SpansRow, in_front};
-ghost use Rattle.table_cursor.specs.Views.{table_of, shown_by, StandsIn, WalksIn};
+ghost use Rattle.table_cursor.specs.Walking.{CanBeRead, SpansRow, in_front};
+ghost use Rattle.table_cursor.specs.Views.{table_of, shown_by, StandsIn, WalksIn, DamageAt};
 
 use crate::table_cursor::TableCursor;
 use block_form::one_block;
@@ -36,3 +37,11 @@ pub fn law_walk_told<P: Port>(cursor: &TableCursor<P>)
     law_blocks();
     one_block();
 }
+
+/// Where damage is told, nothing can be read as that block of the table, over a device that tells
+/// its bytes.
+pub fn law_damage<P: Port>(cursor: &TableCursor<P>)
+    ensures { (index number at : ℕ) (block : List Entry) → IsTrue P.File.tells
+        → DamageAt cursor.now index number at
+        → CanBeRead P.File.TableHandle (table_of cursor.now) index block → ⊥ }
+{}

@@ -159,7 +159,7 @@ impl Page {
         self.count = 0;
     }
 
-    /// Goes to another place.
+    /// Goes to another place; to the next one by reading the entry here and that one alone.
     pub fn go(&mut self, place: usize)
         requires { place < length self.old.entries }
         ensures { self.new ≡ record self.old { place = place } }
@@ -183,9 +183,10 @@ impl Page {
         self.place += 1;
     }
 
-    /// Goes to another place, from the restart at or before it.
+    /// Goes to a place that isn't the next one, from the restart at or before it.
     fn jump(&mut self, place: usize)
-        requires { place < length self.old.entries }
+        requires inside { place < length self.old.entries }
+        requires far { place ≡ self.old.place + 1 → ⊥ }
         ensures { self.new ≡ record self.old { place = place } }
     {
         self.here = block_in(&self.loan, self.len, self.count).go(place, &mut self.key);

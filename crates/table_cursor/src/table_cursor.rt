@@ -1,8 +1,11 @@
 //! Cursors over sorted tables.
 
-ghost use Rattle.std.specs.Prelude.{◌≡◌, ◌↔◌, ◌<◌, ◌+◌, ◌-◌, ℕ, List, [], Option, IsTrue, IsNone, IsOk, IfSome, OnOk, OnErr, None, Some, Err, false, length, slice_get};
+ghost use Rattle.std.specs.Prelude.{◌≡◌, ◌↔◌, ◌<◌, ◌≤◌, ◌+◌, ◌-◌, ℕ, List, [], Option, None, Some};
+ghost use Rattle.std.specs.Prelude.{IsTrue, IsNone, IsOk, IfSome, OnOk, OnErr, Err, false};
+ghost use Rattle.std.specs.Prelude.{length, slice_get};
 ghost use Rattle.std.specs.Arc.{arc_value};
-ghost use Rattle.peb_base.specs.Cursors.{next_place, previous_place, last_place, place_from, LeadsTo, IfDamage};
+ghost use Rattle.peb_base.specs.Cursors.{next_place, previous_place, last_place, place_from};
+ghost use Rattle.peb_base.specs.Cursors.{LeadsTo, IfDamage};
 ghost use Rattle.peb_base.specs.Entries.{AreSorted, comes_before, first_from};
 ghost use Rattle.peb_base.specs.declared.entry.Entry.{Entry};
 ghost use Rattle.peb_base.specs.declared.read_fault.ReadFault.TheVariants as faults;
@@ -12,10 +15,11 @@ ghost use Rattle.disk_model.specs.Ports.{ReadsAtMost};
 ghost use Rattle.table_file.specs.Tables.{Holds};
 ghost use Rattle.table_cursor.specs.Agreeing.{ShowsOf, IsDamageAt};
 ghost use Rattle.table_cursor.specs.Page.{Reading};
-ghost use Rattle.table_cursor.specs.Spots.{spot, first_spot, last_spot, next_spot, previous_spot, found_spot, spot_after};
+ghost use Rattle.table_cursor.specs.Spots.{spot, first_spot, last_spot, next_spot, previous_spot};
+ghost use Rattle.table_cursor.specs.Spots.{found_spot, spot_after};
 ghost use Rattle.table_cursor.specs.Standing.{OnPage};
 ghost use Rattle.table_cursor.specs.Steps.{target, Fits, TurnsTo};
-ghost use Rattle.table_cursor.specs.WalkLaws.{AscendFrom-prop};
+ghost use Rattle.peb_base.specs.SortedParts.{AscendFrom-prop};
 
 use crate::page::Page;
 use crate::step::Step;
@@ -27,7 +31,8 @@ use std::alloc::Global;
 use std::sync::Arc;
 use table_file::{Table, law_blocks};
 
-/// A place among the entries of a sorted table, or none. It reads through a port of its own, into a loan.
+/// A place among the entries of a sorted table, or none. It reads through a port of its own, into
+/// a loan.
 pub struct TableCursor<P: Port> {
     table: Arc<Table<P::File>, Global>,
     port: P,
@@ -41,7 +46,8 @@ pub struct TableCursor<P: Port> {
 }
 
 impl<P: Port> TableCursor<P> {
-    ghost use Rattle.table_cursor.specs.Views.{table_of, port_of, page_of, index_of, refused_of, shown_by, spot_of, StandsIn, Turns};
+    ghost use Rattle.table_cursor.specs.Views.{table_of, port_of, page_of, index_of, refused_of};
+    ghost use Rattle.table_cursor.specs.Views.{shown_by, spot_of, StandsIn, Turns};
 
     /// A cursor over the entries of a table, at no place. It makes no read
     /// yet, and no call of it takes memory.
@@ -114,6 +120,8 @@ impl<P: Port> TableCursor<P> {
             ≡ next_spot (arc_value self.now.table).items self.now.index self.now.page }
         ensures within { self.now.page.place + 1 < length self.now.page.entries
             → result ≡ Step.Within (self.now.page.place + 1) }
+        ensures ends { length (arc_value self.now.table).items ≤ self.now.index + 1
+            → length self.now.page.entries ≤ self.now.page.place + 1 → result ≡ Step.Nowhere }
     {
         if self.page.is_empty() {
             return Step::Nowhere;
@@ -143,6 +151,7 @@ impl<P: Port> TableCursor<P> {
             ≡ previous_spot (arc_value self.now.table).items self.now.index self.now.page now }
         ensures within { 0 < self.now.page.place → 0 < length self.now.page.entries
             → result ≡ Step.Within (self.now.page.place - 1) }
+        ensures begins { self.now.index ≡ 0 → self.now.page.place ≡ 0 → result ≡ Step.Nowhere }
     {
         if self.page.is_empty() {
             return Step::Nowhere;
@@ -257,7 +266,8 @@ impl<P: Port> TableCursor<P> {
         }
     }
 
-    /// Goes to the first entry at or behind this key and number, or to no place where all come before.
+    /// Goes to the first entry at or behind this key and number, or to no place where all come
+    /// before.
     fn go_to(&mut self, key: &[u8], number: Number) -> Result<(), ReadFault>
         ensures leads { (es : List Entry)
             → (holds : Holds P.File.TableHandle (arc_value self.old.table) es)
@@ -288,20 +298,30 @@ impl<P: Port> TableCursor<P> {
 }
 
 impl<P: Port> Cursor for TableCursor<P> {
-    ghost use Rattle.std.specs.Prelude.{◌≡◌, ◌<◌, ◌+◌, ◌-◌, ◌++◌, ◌∷◌, [], ℕ, List, Option, Some, None, IsOk, IfSome, OnOk, OnErr, Err, true, false, length, option_map};
+    ghost use Rattle.std.specs.Prelude.{◌≡◌, ◌<◌, ◌≤◌, ◌+◌, ◌-◌, ◌++◌, ◌∷◌, [], ℕ, List, Option};
+    ghost use Rattle.std.specs.Prelude.{Some, None, IsOk, IfSome, OnOk, OnErr, Err, true, false};
+    ghost use Rattle.std.specs.Prelude.{length, option_map};
     ghost use Rattle.std.specs.Arc.{arc_value};
-    ghost use Rattle.peb_base.specs.Cursors.{place_from, first_place, last_place, next_place, previous_place, LeadsTo, CountsFaults, IfDamage, refusal};
+    ghost use Rattle.peb_base.specs.Cursors.{place_from, first_place, last_place, next_place};
+    ghost use Rattle.peb_base.specs.Cursors.{previous_place, LeadsTo, CountsFaults, IfDamage};
+    ghost use Rattle.peb_base.specs.Cursors.{refusal};
+    ghost use Rattle.peb_base.specs.SortedParts.{entry_within};
     ghost use Rattle.peb_base.specs.EntryRefs.{entry_of};
     ghost use Rattle.peb_base.specs.Entries.{comes_before, entry_lt};
     ghost use Rattle.peb_base.specs.declared.entry.Entry.{Entry};
     ghost use Rattle.peb_base.specs.declared.read_fault.ReadFault.TheVariants as faults;
     ghost use Rattle.disk_model.specs.Ports.{ReadsAtMost};
     ghost use Rattle.table_file.specs.Items.{index_for};
-    ghost use Rattle.table_cursor.specs.Spots.{first_spot, last_spot, next_spot, previous_spot, found_spot};
+    ghost use Rattle.table_cursor.specs.Spots.{first_spot, last_spot, next_spot, previous_spot};
+    ghost use Rattle.table_cursor.specs.Spots.{found_spot};
     ghost use Rattle.table_cursor.specs.StandingLaws.{stands_among};
-    ghost use Rattle.table_cursor.specs.Views.{table_of, port_of, page_of, index_of, refused_of, blocks_in, shown_by, spot_of, ahead_of, back_of, size_of, StandsIn, WalksIn, DamageIn, DamageAt, IsOfTable, Keeps, Moves, keeps_self, keeps_on, keeps_damage};
+    ghost use Rattle.table_cursor.specs.Views.{table_of, port_of, page_of, index_of, refused_of};
+    ghost use Rattle.table_cursor.specs.Views.{blocks_in, shown_by, spot_of, ahead_of, back_of};
+    ghost use Rattle.table_cursor.specs.Views.{size_of, StandsIn, WalksIn, DamageIn, DamageAt};
+    ghost use Rattle.table_cursor.specs.Views.{IsOfTable, Keeps, Moves, keeps_self, keeps_on};
+    ghost use Rattle.table_cursor.specs.Views.{keeps_damage};
     ghost use Rattle.table_cursor.specs.Walking.{most_steps};
-    ghost use Rattle.table_cursor.specs.WalkLaws.{entry_within, walk_ascends, steps_bounded};
+    ghost use Rattle.table_cursor.specs.WalkLaws.{walk_ascends, steps_bounded};
 
     ghost stands = { λ cursor es place. StandsIn cursor es place };
 
@@ -399,7 +419,8 @@ impl<P: Port> Cursor for TableCursor<P> {
         moved
     }
 
-    /// Goes one entry on, or to no place behind the last. Within a block it makes no read.
+    /// Goes one entry on, or to no place behind the last. It makes a read only from the last entry of
+    /// a block that isn't the table's last.
     fn next(&mut self) -> Result<(), ReadFault>
         // what it gives
         ensures goes { (es : List Entry) (place : Option ℕ)
@@ -423,6 +444,10 @@ impl<P: Port> Cursor for TableCursor<P> {
             → IsOk result × (shown_by self.new ≡ None) }
         // what it leaves
         ensures unread { shown_by self.old ≡ None → port_of self.new ≡ port_of self.old }
+        ensures ends { blocks_in self.old ≤ index_of self.old + 1
+            → length (page_of self.old).entries ≤ (page_of self.old).place + 1
+            → IsOk result × (shown_by self.new ≡ None)
+            × (port_of self.new ≡ port_of self.old) }
         ensures moves { Moves self.old self.new (index_of self.old + 1) result }
     {
         let step = self.next_step();
@@ -431,7 +456,8 @@ impl<P: Port> Cursor for TableCursor<P> {
         moved
     }
 
-    /// Goes one entry back, or to no place before the first. Within a block it makes no read.
+    /// Goes one entry back, or to no place before the first. It makes a read only from the first entry
+    /// of a block that isn't the table's first.
     fn prev(&mut self) -> Result<(), ReadFault>
         // what it gives
         ensures goes { (es : List Entry) (place : Option ℕ)
@@ -455,6 +481,9 @@ impl<P: Port> Cursor for TableCursor<P> {
             → IsOk result × (shown_by self.new ≡ None) }
         // what it leaves
         ensures unread { shown_by self.old ≡ None → port_of self.new ≡ port_of self.old }
+        ensures begins { index_of self.old ≡ 0 → (page_of self.old).place ≡ 0
+            → IsOk result × (shown_by self.new ≡ None)
+            × (port_of self.new ≡ port_of self.old) }
         ensures moves { Moves self.old self.new (index_of self.old - 1) result }
     {
         let step = self.previous_step();
@@ -463,8 +492,8 @@ impl<P: Port> Cursor for TableCursor<P> {
         moved
     }
 
-    /// Lends the entry at its place; None exactly at no place. The entry is one of a block that agrees with
-    /// the table's index and row, and whose bytes stand in the table's file.
+    /// Lends the entry at its place; None exactly at no place. The entry is one of a block that agrees
+    /// with the table's index and row, and whose bytes stand in the table's file.
     fn at(&self) -> Option<EntryRef<'_>>
         ensures lent { option_map entry_of result ≡ shown_by self.now }
         ensures agrees { IfSome result (λ entry. IsOfTable self.now (entry_of entry)) }

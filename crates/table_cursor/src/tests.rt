@@ -6,13 +6,12 @@ ghost use Rattle.peb_base.specs.Entries.{IsEntry, AreSorted, comes_before};
 ghost use Rattle.peb_base.specs.declared.entry.Entry.{Entry};
 ghost use Rattle.table_file.specs.Writing.{HasPushed};
 
-use crate::{TableCursor, TripFault, are_sorted, look_in, look_up, round_trip};
-use block_form::Block;
+use crate::TableCursor;
 use block_pool::Pool;
 use disk_model::{Devices, FailPlan, Maker, MemDevices, Plans, Port};
 use peb_base::{
-    Change, ChangeRef, Cursor, Entry, EntryRef, Key, KeyBuf, List, Number, Options, Profile,
-    ReadFault, TableRow, Value, is_before,
+    ChangeRef, Cursor, EntryRef, Key, Number, Options, Profile, ReadFault, TableRow, Value,
+    is_before,
 };
 use std::alloc::Global;
 use std::sync::Arc;
@@ -20,10 +19,10 @@ use std::test::Fail;
 use table_file::{PutFault, Table, TableWriter};
 
 /// The number 1.1, of a table and of an entry.
-const ONE: u64 = 1_099_511_627_777;
+pub const ONE: u64 = 1_099_511_627_777;
 
 /// Table 1.1 with the put of `1` to `a`, numbered 1.1.
-const TABLE: [u8; 111] = [
+pub const TABLE: [u8; 111] = [
     0, 0, 0, 0, 1, 0, 0, 1, 0, 0, 0, 0, 1, 1, 0, 0, 0, 1, b'a', b'1', 0, 0, 0, 1, 0, 0, 0, 1, 0, 0,
     0, 1, 0, 0, 0, 0, 0, 0, 0, 0, 0, 0, 0, 28, 0, 1, b'a', 0, 0, 1, 0, 0, 0, 0, 1, 0, 0, 0, 0, 0,
     0, 248, 1, 0, 0, 1, 0, 0, 0, 0, 1, 0, 0, 0, 0, 0, 0, 0, 28, 0, 0, 0, 27, 0, 0, 0, 0, 0, 0, 0,
@@ -188,7 +187,7 @@ fn a_cursor_walks_two_blocks_with_a_read_for_each_seek(rt: HostRuntime) -> Resul
     Ok(())
 }
 
-fn shared<P: Port>(
+pub fn shared<P: Port>(
     alloc: Global,
     port: &mut P,
     row: TableRow,
@@ -423,193 +422,5 @@ fn blocks_of_1_to_224_entries_are_walked_and_sought(rt: HostRuntime) -> Result<(
         let told = fallen(alloc, profile, most)?;
         assert_eq!(rt; told, (blocks, [most; 3]), "{most} entries");
     }
-    Ok(())
-}
-
-/// The row of the table of one put.
-fn row_of_one(alloc: Global) -> Result<TableRow, Fail> {
-    Ok(TableRow {
-        number: ONE,
-        level: 2,
-        tier: 0,
-        smallest: Key::new(alloc, b"a")?,
-        largest: Key::new(alloc, b"a")?,
-        entries: 1,
-        raw: 2,
-        first: Number::new(1, 1),
-        last: Number::new(1, 1),
-        bytes: 111,
-    })
-}
-
-/// The number and the first byte of the value of what was found.
-fn told(entry: EntryRef<'_>) -> (u64, Option<u8>) {
-    match entry.change {
-        ChangeRef::Put(value) => (entry.number, value.first().copied()),
-        ChangeRef::Delete => (entry.number, None),
-    }
-}
-
-/// Looks a key up in a file that is to be the table of one put.
-fn looked(
-    alloc: Global,
-    bytes: &[u8],
-    key: &[u8],
-    number: Number,
-) -> Result<Result<Option<(u64, Option<u8>)>, ReadFault>, Fail> {
-    let devices = MemDevices::new(alloc, Plans::empty(alloc))?;
-    let mut devices = devices.with_table(ONE, bytes)?;
-    let row = row_of_one(alloc)?;
-    let mut pool = Pool::new(alloc, 1)?;
-    let mut port = devices.port()?;
-    let table = match shared(alloc, &mut port, row) {
-        Ok(table) => table,
-        Err(fail) => {
-            devices.back_port(port);
-            return Err(fail);
-        }
-    };
-    let Some(mut loan) = pool.lend() else {
-        devices.back_port(port);
-        return Err(Fail::from("no loan"));
-    };
-    let mut room = KeyBuf::new();
-    let found = match look_up(&table, &mut port, &mut loan, key, number, &mut room) {
-        Ok(found) => Ok(found.map(told)),
-        Err(fault) => Err(fault),
-    };
-    devices.back_port(port);
-    pool.give_back(loan);
-    Ok(found)
-}
-
-#[test]
-fn an_entry_is_looked_up_by_reference(rt: HostRuntime) -> Result<(), Fail> {
-    let alloc = rt.alloc();
-    let one = Ok(Some((ONE, Some(b'1'))));
-    assert_eq!(rt; looked(alloc, &TABLE, b"a", Number::new(1, 1))?, one);
-    assert_eq!(rt; looked(alloc, &TABLE, b"a", Number::new(2, 0))?, one);
-    assert_eq!(rt; looked(alloc, &TABLE, b"a", Number::new(1, 0))?, Ok(None));
-    assert_eq!(rt; looked(alloc, &TABLE, b"", Number::new(2, 0))?, Ok(None));
-    assert_eq!(rt; looked(alloc, &TABLE, b"b", Number::new(2, 0))?, Ok(None));
-    let mut bytes = TABLE;
-    bytes[18] = b'b';
-    let damaged = Err(ReadFault::Damaged { table: ONE, at: 0 });
-    assert_eq!(rt; looked(alloc, &bytes, b"a", Number::new(1, 1))?, damaged);
-    Ok(())
-}
-
-#[test]
-fn an_entry_is_looked_up_in_a_block_at_hand(rt: HostRuntime) -> Result<(), Fail> {
-    let bytes = &TABLE[..28];
-    let count = Block::read(bytes)?.len();
-    assert_eq!(rt; count, 1);
-    let mut room = KeyBuf::new();
-    let found = look_in(bytes, count, b"a", Number::new(1, 2), &mut room).map(told);
-    assert_eq!(rt; found, Some((ONE, Some(b'1'))));
-    let older = look_in(bytes, count, b"a", Number::new(1, 0), &mut room).map(told);
-    assert_eq!(rt; older, None);
-    let other = look_in(bytes, count, b"b", Number::new(1, 2), &mut room).map(told);
-    assert_eq!(rt; other, None);
-    Ok(())
-}
-
-/// An entry of session 1.
-fn entry(alloc: Global, key: &[u8], count: u64, value: Option<&[u8]>) -> Result<Entry, Fail> {
-    let change = match value {
-        Some(value) => Change::Put(Value::new(alloc, value)?),
-        None => Change::Delete,
-    };
-    Ok(Entry {
-        key: Key::new(alloc, key)?,
-        number: Number::new(1, count % 1000),
-        change,
-    })
-}
-
-/// Whether writing, opening and walking these sorted entries fails where this call of the port does.
-fn fails_at_call(alloc: Global, entries: &[Entry], call: u64) -> Result<bool, Fail> {
-    if entries.is_empty() || !are_sorted(entries) {
-        return Err("not sorted".into());
-    }
-    let mut plans = Plans::empty(alloc);
-    plans.port.calls.push(call)?;
-    let mut devices = MemDevices::new(alloc, plans)?;
-    let options = Options::of(Profile::Small);
-    match round_trip(alloc, &mut devices, &options, ONE, 2, entries) {
-        Ok(_) => Ok(false),
-        Err(TripFault::Fault) => Ok(true),
-        Err(why) => Err(why.into()),
-    }
-}
-
-/// Writes these entries and walks them, if they are sorted.
-fn tripped(alloc: Global, entries: &[Entry]) -> Result<Option<List<Entry>>, Fail> {
-    if entries.is_empty() || !are_sorted(entries) {
-        return Ok(None);
-    }
-    let mut devices = MemDevices::new(alloc, Plans::empty(alloc))?;
-    let options = Options::of(Profile::Small);
-    let seen = round_trip(alloc, &mut devices, &options, ONE, 2, entries)?;
-    Ok(Some(seen))
-}
-
-/// The first byte of the key, the count of the number and the length of the value of each.
-fn plain(
-    alloc: Global,
-    entries: &List<Entry>,
-) -> Result<Vec<(Option<u8>, u64, Option<usize>)>, Fail> {
-    let mut plain = Vec::new(alloc);
-    for entry in entries.items() {
-        let value = match &entry.change {
-            Change::Put(value) => Some(value.bytes().len()),
-            Change::Delete => None,
-        };
-        plain.push((
-            entry.key.bytes().first().copied(),
-            entry.number.count(),
-            value,
-        ))?;
-    }
-    Ok(plain)
-}
-
-#[test]
-fn what_was_written_is_walked(rt: HostRuntime) -> Result<(), Fail> {
-    let alloc = rt.alloc();
-    let mut entries = Vec::new(alloc);
-    entries.push(entry(alloc, b"a", 2, None)?)?;
-    entries.push(entry(alloc, b"a", 1, Some(&[b'v'; 240]))?)?;
-    entries.push(entry(alloc, b"p", 3, Some(b"12"))?)?;
-    let seen = tripped(alloc, &entries)?.ok_or("not sorted")?;
-    assert_eq!(rt;
-        plain(alloc, &seen)?.as_slice(),
-        [
-            (Some(b'a'), 2, None),
-            (Some(b'a'), 1, Some(240)),
-            (Some(b'p'), 3, Some(2))
-        ]
-        .as_slice()
-    );
-    entries.push(entry(alloc, b"p", 4, None)?)?;
-    assert!(rt; tripped(alloc, &entries)?.is_none());
-    Ok(())
-}
-
-/// The port is handed out, three reads open the table, and each of its two blocks takes one.
-#[test]
-fn what_is_walked_is_read(rt: HostRuntime) -> Result<(), Fail> {
-    let alloc = rt.alloc();
-    let mut entries = Vec::new(alloc);
-    entries.push(entry(alloc, b"a", 1, Some(&[b'v'; 300]))?)?;
-    entries.push(entry(alloc, b"p", 3, Some(b"12"))?)?;
-    let mut failing = Vec::new(alloc);
-    for call in 1..=7 {
-        failing.push(fails_at_call(alloc, &entries, call)?)?;
-    }
-    assert_eq!(rt;
-        failing.as_slice(),
-        [true, true, true, true, true, true, false].as_slice()
-    );
     Ok(())
 }

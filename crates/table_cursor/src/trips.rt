@@ -1,6 +1,8 @@
 //! Tables that are written, opened and walked.
 
-ghost use Rattle.std.specs.Prelude.{◌≡◌, ◌↔◌, ◌≤◌, ◌<◌, ◌^◌, ◌-◌, ◌∷◌, ◌++◌, [], ℕ, false, min, List, Option, Some, None, Err, IfOk, IfErr, OnOk, OnErr, IsTrue, length};
+ghost use Rattle.std.specs.Prelude.{◌≡◌, ◌↔◌, ◌≤◌, ◌<◌, ◌^◌, ◌-◌, ◌∷◌, ◌++◌, [], ℕ, false, min};
+ghost use Rattle.std.specs.Prelude.{List, Option, Some, None, Err, IfOk, IfErr, OnOk, OnErr};
+ghost use Rattle.std.specs.Prelude.{IsTrue, length};
 ghost use Rattle.disk_model.specs.Tables.{with_table, is_gone, StaysOrGoes};
 ghost use Rattle.peb_base.specs.Entries.{AreSorted, IsEntry};
 ghost use Rattle.peb_base.specs.EntryRefs.{entry_of};
@@ -11,7 +13,9 @@ ghost use Rattle.table_file.specs.Limits.{blocks_fault};
 ghost use Rattle.table_file.specs.Tables.{IsTableOf, IsRowAt, Holds};
 ghost use Rattle.table_file.specs.Writing.{block_length};
 ghost use Rattle.table_file.specs.declared.put_fault.PutFault.TheVariants as puts;
-ghost use Rattle.table_cursor.specs.Trips.{TellsDamage, TellsTable, LimitsPut, LimitsTrip, IsRowWritten, SpansEntries, ChangesTables};
+ghost use Rattle.table_cursor.specs.Agreeing.{IsDamageOf};
+ghost use Rattle.table_cursor.specs.Trips.{TellsDamage, TellsTable, TellsOf, LimitsPut, LimitsTrip};
+ghost use Rattle.table_cursor.specs.Trips.{IsRowWritten, SpansEntries, ChangesTables};
 ghost use Rattle.table_cursor.specs.Views.{table_of, port_of, StandsIn, Keeps};
 ghost use Rattle.table_cursor.specs.Walking.{SpansRow};
 ghost use Rattle.table_cursor.specs.declared.trip_fault.TripFault.TheVariants.{Fault};
@@ -150,6 +154,8 @@ fn walk<P: Port>(alloc: Global, cursor: &mut TableCursor<P>) -> Result<List<Entr
     ensures undamaged { (es : List Entry) (place : Option ℕ) → StandsIn cursor.old es place →
         IfErr result (λ why. TellsDamage why → ⊥) }
     ensures damaged { IfErr result (TellsTable (table_of cursor.old).row.number) }
+    ensures damage { IfErr result
+        (TellsOf (IsDamageOf P.File.TableHandle (table_of cursor.old))) }
     ensures unlimited { IfErr result
         (λ why. (full : ℕ) (es : List Entry) → LimitsTrip full es why) }
     ensures later { P.faults (port_of cursor.old) ≤ P.faults (port_of cursor.new) }
@@ -190,6 +196,7 @@ fn walk_table<P: Port>(
         → Holds P.File.TableHandle table es →
         IfErr result.1 (λ why. TellsDamage why → ⊥) }
     ensures damaged { IfErr result.1 (TellsTable table.row.number) }
+    ensures damage { IfErr result.1 (TellsOf (IsDamageOf P.File.TableHandle table)) }
     ensures unlimited { IfErr result.1
         (λ why. (full : ℕ) (es : List Entry) → LimitsTrip full es why) }
     ensures later { P.faults port ≤ P.faults result.0 }
@@ -225,7 +232,12 @@ fn walk_row<P: Port>(alloc: Global, port: P, row: TableRow) -> (P, Result<List<E
         → IsRowWritten row full es →
         (P.table_files port).sealed row.number ≡ Some (table_bytes full row.number es) →
         IfErr result.1 (λ why. TellsDamage why → ⊥) }
+    ensures absent { (full : ℕ) (es : List Entry) → IsTrue P.File.tells → IsRowWritten row full es →
+        ((bytes : List ℕ) → (P.table_files port).sealed row.number ≡ Some bytes →
+        bytes ≡ table_bytes full row.number es) →
+        IfErr result.1 (TellsOf (λ number at. at ≡ 0)) }
     ensures damaged { IfErr result.1 (TellsTable row.number) }
+    ensures within { IfErr result.1 (TellsOf (λ number at. at ≤ row.bytes)) }
     ensures unlimited { IfErr result.1
         (λ why. (full : ℕ) (es : List Entry) → LimitsTrip full es why) }
     ensures later { P.faults port ≤ P.faults result.0 }
@@ -350,7 +362,12 @@ fn walked<D: Devices>(
     ensures undamaged { (full : ℕ) (es : List Entry) → IsTrue D.F.tells → IsRowWritten row full es →
         (D.tables_told devices.old).files.sealed row.number
         ≡ Some (table_bytes full row.number es) → IfErr result (λ why. TellsDamage why → ⊥) }
+    ensures absent { (full : ℕ) (es : List Entry) → IsTrue D.F.tells → IsRowWritten row full es →
+        ((bytes : List ℕ) → (D.tables_told devices.old).files.sealed row.number ≡ Some bytes →
+        bytes ≡ table_bytes full row.number es) →
+        IfErr result (TellsOf (λ number at. at ≡ 0)) }
     ensures damaged { IfErr result (TellsTable row.number) }
+    ensures within { IfErr result (TellsOf (λ number at. at ≤ row.bytes)) }
     ensures unlimited { IfErr result
         (λ why. (full : ℕ) (es : List Entry) → LimitsTrip full es why) }
     ensures cause { result ≡ Err Fault →
@@ -368,12 +385,13 @@ fn walked<D: Devices>(
     seen
 }
 
-/// Writes the table of these entries, which ascend, opens it again from its file by its row, and gives
-/// what a walk from its first entry to its end shows.
+/// Writes the table of these entries, which ascend, opens it again from its file by its row, and
+/// gives what a walk from its first entry to its end shows.
 ///
 /// `Fault` comes only where the devices' count of faults of tables rose, `Limit` only where a
-/// table of the entries would pass the limit, and `Damaged` never over devices that tell
-/// their bytes and took no table of the number away.
+/// table of the entries would pass the limit. `Damaged` tells the number and a place within the table's
+/// length; over devices that tell their bytes it comes never where no table of the number was taken
+/// away, and else only where the file isn't there, with place 0.
 pub fn round_trip<D: Devices>(
     alloc: Global,
     devices: &mut D,
@@ -397,7 +415,10 @@ pub fn round_trip<D: Devices>(
     ensures undamaged { IsTrue D.F.tells →
         is_gone (D.tables_told devices.old).tally.gone number ≡ false →
         IfErr result (λ why. TellsDamage why → ⊥) }
+    ensures absent { IsTrue D.F.tells → IfErr result (TellsOf (λ n at. at ≡ 0)) }
     ensures damaged { IfErr result (TellsTable number) }
+    ensures within { IfErr result (TellsOf (λ n at.
+        at ≤ length (table_bytes options.now.block_bytes number entries.now))) }
     ensures cause { result ≡ Err Fault →
         Rose (D.tables_told devices.old).faults (D.tables_told devices.new).faults }
     // what stays

@@ -1,6 +1,7 @@
 -- Where the bytes of a table are damaged.
-use Rattle.std.proofs.Common.{◌≡◌, ◌≢◌, ℕ, ◌+◌, ◌-◌, ◌<◌, ◌≤◌, ◌^◌, ◌∙◌, List, length, take, drop, refl, sym, ap, arith, length-drop}
+use Rattle.std.proofs.Common.{◌≡◌, ◌≢◌, ◌⊎◌, inl, inr, ℕ, ◌+◌, ◌-◌, ◌<◌, ◌≤◌, ◌^◌, ◌∙◌, List, length, take, drop, refl, sym, ap, arith, length-drop}
 use Rattle.std.specs.Prelude.{min, max}
+use Rattle.std.proofs.lemmas.Bool.{cases_eq, cases_lt}
 use Rattle.std.proofs.lemmas.List.{length-take}
 use Rattle.peb_base.specs.declared.table_row.TableRow.{TableRow}
 use Rattle.table_file.specs.Damages.{IsDamage, IsToldAt, EndsWithFooter, IsPlaceOfDamage}
@@ -59,3 +60,36 @@ index_place row bytes footer fits ends = record {
   footer_stands = λ f also.
       ap (λ (x : Footer). x.index) (one_footer row footer f fits ends.agrees also.agrees (sym ends.spelled ∙ also.spelled));
 }
+
+-- ---- places that the row tells
+
+-- a fault that is told at a place is told at one of which more is true
+pub told_on : (P Q : ℕ → Type 0) (why : TableFault) → ((at : ℕ) → P at → Q at) → IsToldAt P why
+    → IsToldAt Q why
+told_on P Q Fault more told = tt
+told_on P Q (Damaged table at) more told = more at told
+told_on P Q Memory more told = tt
+
+-- the places of two tellings are one, where they can't differ otherwise
+place_twice : (row : TableRow) (bytes : List ℕ) (a b : ℕ) → IsPlaceOfDamage row bytes a
+    → IsPlaceOfDamage row bytes b → a ≢ b → a ≡ b
+place_twice row bytes a b pa pb differ = by (cases_lt row.bytes 48)
+  where
+    none : (footer : Footer) → EndsWithFooter row bytes footer → ⊥
+    none footer ends = differ (pa.footer_stands footer ends ∙ sym (pb.footer_stands footer ends))
+
+    by_length : 48 ≤ row.bytes → (length bytes ≡ row.bytes) ⊎ (length bytes ≡ row.bytes → ⊥) → a ≡ b
+    by_length le (inl long) = pa.no_footer le long none ∙ sym (pb.no_footer le long none)
+    by_length le (inr other) = pa.other_length le other ∙ sym (pb.other_length le other)
+
+    by : (row.bytes < 48) ⊎ (48 ≤ row.bytes) → a ≡ b
+    by (inl small) = pa.tiny small ∙ sym (pb.tiny small)
+    by (inr le) = by_length le (cases_eq (length bytes) row.bytes)
+
+pub one_place : (row : TableRow) (bytes : List ℕ) (a b : ℕ) → IsPlaceOfDamage row bytes a
+    → IsPlaceOfDamage row bytes b → a ≡ b
+one_place row bytes a b pa pb = by (cases_eq a b)
+  where
+    by : (a ≡ b) ⊎ (a ≡ b → ⊥) → a ≡ b
+    by (inl same) = same
+    by (inr differ) = place_twice row bytes a b pa pb differ

@@ -1,5 +1,5 @@
 -- Damage of tables.
-use Rattle.std.specs.Prelude.{◌≡◌, ◌≢◌, ◌-◌, ◌<◌, ◌≤◌, ℕ, List, length, drop, min, max}
+use Rattle.std.specs.Prelude.{◌≡◌, ◌≢◌, ◌⊎◌, ◌+◌, ◌-◌, ◌<◌, ◌≤◌, ℕ, List, length, drop, min, max}
 use Rattle.peb_base.specs.declared.table_row.TableRow.{TableRow}
 use Rattle.table_file.specs.Form.{footer_bytes}
 use Rattle.table_file.specs.Opening.{IsFooterOf}
@@ -41,3 +41,11 @@ pub record IsPlaceOfDamage (row : TableRow) (bytes : List ℕ) (at : ℕ) : Type
   pub no_footer : 48 ≤ row.bytes → length bytes ≡ row.bytes →
       ((footer : Footer) → EndsWithFooter row bytes footer → ⊥) → at ≡ row.bytes - 48
   pub footer_stands : (footer : Footer) → EndsWithFooter row bytes footer → at ≡ footer.index
+
+-- where damage of the row's table may be told, whatever its device tells: at the file's first byte, from
+-- the footer's place by the row to the end by the row, or where by a footer that agrees the index or
+-- the filter begins
+abbrev pub IsPlaceByRow : TableRow → ℕ → Type 0
+IsPlaceByRow row at =
+    (at ≡ 0) ⊎ ((row.bytes ≤ at + 48) × (at ≤ row.bytes))
+    ⊎ ((footer : Footer) × IsFooterOf row footer × ((at ≡ footer.index) ⊎ (at ≡ footer.filter)))

@@ -1,6 +1,8 @@
 -- What the law of held entries says.
-use Rattle.std.specs.Prelude.{◌≡◌, ℕ, ◌<◌, ◌≤◌, ◌^◌, List, length}
+use Rattle.std.specs.Prelude.{◌≡◌, ℕ, ◌<◌, ◌≤◌, ◌^◌, true, List, length, Contains}
+use Rattle.bloom.specs.Filter.{may_hold}
 use Rattle.disk_model.specs.declared.table_handle.TableHandle.{Ghosts}
+use Rattle.peb_base.specs.Choice.{mixed}
 use Rattle.peb_base.specs.Entries.{AreSorted}
 use Rattle.peb_base.specs.Tables.{IsRowOf}
 use Rattle.peb_base.specs.declared.entry.Entry.{Entry}
@@ -31,3 +33,8 @@ pub record IsOpenedOver {F : Type 0} (g : Ghosts F) (t : TableParts F) (full : �
 abbrev pub OpenedHolds : {F : Type 0} → Ghosts F → Type 0
 OpenedHolds {F} g =
     (t : TableParts F) (full : ℕ) (es : List Entry) → IsOpenedOver g t full es → Holds g t es
+
+-- no key of the entries that a table holds is denied by its filter
+abbrev pub KeysAreHeld : {F : Type 0} → Ghosts F → Type 0
+KeysAreHeld {F} g = (t : TableParts F) (es : List Entry) (e : Entry) → Holds g t es → Contains es e
+    → may_hold t.filter (mixed e.key) ≡ true

@@ -57,3 +57,11 @@ pub record OpensAs (row : TableRow) (items : List IndexItem) (filter : List ℕ)
 abbrev pub IsNoTable : TableRow → List ℕ → Type 0
 IsNoTable row bytes =
     (items : List IndexItem) (filter : List ℕ) → OpensAs row items filter bytes → ⊥
+
+-- what is opened fits the row, whatever the device tells: by its index the blocks adjoin and end where the
+-- index begins by a footer that agrees, and the filter is as long as that says
+pub record FitsRow (row : TableRow) (items : List IndexItem) (filter : List ℕ) : Type 0 where
+  pub footer : Footer
+  pub agrees : IsFooterOf row footer
+  pub index : IsIndex footer.index items
+  pub filter_len : length filter ≡ footer.filter_len

@@ -9,9 +9,10 @@ ghost use Rattle.peb_base.specs.Tables as reckoned;
 ghost use Rattle.peb_base.specs.declared.entry.Entry.{Entry};
 ghost use Rattle.table_file.specs.Blocks.{AreBlocks};
 ghost use Rattle.table_file.specs.Cutting.{BlocksAreCut, OneCut};
+ghost use Rattle.table_file.specs.Damages.{IsPlaceOfDamage};
 ghost use Rattle.table_file.specs.Form.{blocks_of, items_from, index_bytes, key_filter, table_bytes};
 ghost use Rattle.table_file.specs.Opening.{OpensAs};
-ghost use Rattle.table_file.specs.Holding.{WrittenHolds, OpenedHolds};
+ghost use Rattle.table_file.specs.Holding.{WrittenHolds, OpenedHolds, KeysAreHeld};
 ghost use Rattle.table_file.specs.declared.index_item.IndexItem.{IndexItem};
 
 use block_form::block_grows;
@@ -22,6 +23,12 @@ use disk_model::TableHandle;
 pub fn one_opening()
     ensures { (row : TableRow) (a b : List IndexItem) (f g bytes : List ℕ) → row.bytes < 2 ^ 64
         → OpensAs row a f bytes → OpensAs row b g bytes → (a ≡ b) × (f ≡ g) }
+{}
+
+/// Bytes are damaged at one place at most, by a row.
+pub fn one_place()
+    ensures { (row : TableRow) (bytes : List ℕ) (a b : ℕ) → IsPlaceOfDamage row bytes a
+        → IsPlaceOfDamage row bytes b → a ≡ b }
 {}
 
 /// The bytes of a table's entries, in a profile whose blocks are full at most at 4096 bytes, open by the
@@ -85,5 +92,12 @@ pub fn law_holds<F: TableHandle>()
     ensures opened { OpenedHolds F.TableHandle }
 {
     block_grows();
+    law_filter();
+}
+
+/// No key of the entries that a table holds is denied by its filter.
+pub fn law_held<F: TableHandle>()
+    ensures { KeysAreHeld F.TableHandle }
+{
     law_filter();
 }

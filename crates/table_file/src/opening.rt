@@ -1,9 +1,9 @@
 //! Opening tables.
 
 ghost use Rattle.std.specs.Prelude.{◌≡◌, ◌+◌, ◌-◌, ◌<◌, ◌≤◌, ◌^◌, List, ℕ, None, Some, Err, length, take, drop, IsTrue, IfOk, IfErr};
-ghost use Rattle.table_file.specs.Damages.{IsDamage, TellsTable, IsToldAt, EndsWithFooter, IsPlaceOfDamage};
+ghost use Rattle.table_file.specs.Damages.{IsDamage, TellsTable, IsToldAt, EndsWithFooter, IsPlaceOfDamage, IsPlaceByRow};
 ghost use Rattle.table_file.specs.Form.{footer_bytes, index_bytes};
-ghost use Rattle.table_file.specs.Opening.{IsFooterOf, IsIndex, IsNoTable, OpensAs};
+ghost use Rattle.table_file.specs.Opening.{IsFooterOf, IsIndex, IsNoTable, OpensAs, FitsRow};
 ghost use Rattle.disk_model.specs.Ports.{ReadsAtMost};
 ghost use Rattle.table_file.specs.declared.table_fault.TableFault.TheVariants.{Fault};
 
@@ -63,6 +63,7 @@ fn read_footer<P: Port>(
         (λ why. IsDamage why → IsTrue P.File.tells → IsNoTable row.now (P.File.bytes file.now)) }
     ensures place { IfErr result (λ why. IsTrue P.File.tells →
         IsToldAt (IsPlaceOfDamage row.now (P.File.bytes file.now)) why) }
+    ensures by_row { IfErr result (IsToldAt (IsPlaceByRow row.now)) }
     ensures table { IfErr result (TellsTable row.now.number) }
     ensures port { ReadsAtMost P.Port 1 port.old port.new (result ≡ Err Fault) }
 {
@@ -110,6 +111,7 @@ fn read_index<P: Port>(
     ensures place { IfErr result (λ why. IsTrue P.File.tells →
         EndsWithFooter row.now (P.File.bytes file.now) footer.now →
         IsToldAt (IsPlaceOfDamage row.now (P.File.bytes file.now)) why) }
+    ensures by_footer { IfErr result (IsToldAt (λ at. at ≡ footer.now.index)) }
     ensures table { IfErr result (TellsTable row.now.number) }
     ensures port { ReadsAtMost P.Port 1 port.old port.new (result ≡ Err Fault) }
 {
@@ -171,12 +173,15 @@ impl<F: TableHandle> Table<F> {
     /// Opens the table of a row: finds its file, and reads footer, index and filter, in this order.
     ///
     /// `Damaged` comes only where the file isn't there, or where its length, its footer, its index or the
-    /// filter's length disagree with the row. `Fault` comes only where the port's count of faults rose.
+    /// filter's length disagree with the row, and tells the first place of these; over devices that don't
+    /// tell their bytes one of the places where these stand by the row. `Fault` comes only where the port's
+    /// count of faults rose.
     pub fn open<P: Port<File = F>>(
         alloc: Global,
         port: &mut P,
         row: TableRow,
     ) -> Result<Table<F>, TableFault>
+        // what it gives
         ensures row { IfOk result (λ table. table.row ≡ row) }
         ensures number { IfOk result (λ table. F.number table.file ≡ row.number) }
         ensures found { IfOk result
@@ -184,6 +189,8 @@ impl<F: TableHandle> Table<F> {
             → (P.table_files port.old).sealed row.number ≡ Some (F.bytes table.file)) }
         ensures opened { IfOk result
             (λ table. IsTrue F.tells → OpensAs row table.items table.filter (F.bytes table.file)) }
+        ensures fits { IfOk result (λ table. FitsRow row table.items table.filter) }
+        // when it fails
         ensures damaged { IfErr result
             (λ why. IsDamage why → IsTrue F.tells → (bytes : List ℕ)
             → (P.table_files port.old).sealed row.number ≡ Some bytes → IsNoTable row bytes) }
@@ -192,7 +199,10 @@ impl<F: TableHandle> Table<F> {
             IsToldAt (IsPlaceOfDamage row bytes) why) }
         ensures absent { IfErr result (λ why. IsTrue F.tells →
             (P.table_files port.old).sealed row.number ≡ None → IsToldAt (λ at. at ≡ 0) why) }
+        ensures by_row { IfErr result (IsToldAt (IsPlaceByRow row)) }
+        ensures tiny { row.bytes < 48 → IfErr result (IsToldAt (λ at. at ≡ 0)) }
         ensures table { IfErr result (TellsTable row.number) }
+        // what stays
         ensures port { ReadsAtMost P.Port 3 port.old port.new (result ≡ Err Fault) }
     {
         let found = match port.find(row.number) {

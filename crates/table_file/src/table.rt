@@ -1,12 +1,14 @@
 //! Sorted tables.
 
-ghost use Rattle.std.specs.Prelude.{◌≡◌, ◌<◌, ◌≤◌, length, IsTrue, slice_get, Some};
+ghost use Rattle.std.specs.Prelude.{◌≡◌, ◌<◌, ◌≤◌, List, length, IsTrue, Contains, slice_get, Some};
 ghost use Rattle.peb_base.specs.Choice as choice;
+ghost use Rattle.peb_base.specs.declared.entry.Entry.{Entry};
 ghost use Rattle.bloom.specs.Filter.{may_hold};
 ghost use Rattle.table_file.specs.Items.{block_for, ends_before, index_for};
 ghost use Rattle.table_file.specs.Tables.{Holds};
 
 use crate::index_item::IndexItem;
+use crate::laws::law_held;
 use bloom::Filter;
 use disk_model::TableHandle;
 use peb_base::{HasRow, Number, TableRow, is_before};
@@ -91,10 +93,14 @@ impl<F: TableHandle> Table<F> {
         self.filter.bytes()
     }
 
-    /// Whether the table may hold an entry of the key: false only where its filter denies it.
+    /// Whether the table may hold an entry of the key: false only where its filter denies it,
+    /// which it does of no key that the table holds.
     pub fn may_hold(&self, key: &[u8]) -> bool
-        ensures { result ≡ may_hold self.now.filter (choice.mixed key.now) }
+        ensures answer { result ≡ may_hold self.now.filter (choice.mixed key.now) }
+        ensures held { (es : List Entry) (e : Entry) → Holds F.TableHandle self.now es
+            → Contains es e → e.key ≡ key.now → IsTrue result }
     {
+        law_held::<F>();
         self.filter.may_hold(key)
     }
 

@@ -2,11 +2,13 @@ use Rattle.std.proofs.Common.{◌≡◌, ◌∙◌, Some, arith, sym, ap, subst}
 use Rattle.std.specs.Prelude.{option_map}
 use Rattle.peb_base.specs.Cursors.{first_place, next_place}
 use Rattle.peb_base.specs.EntryRefs.{entry_of}
-use Rattle.table_cursor.specs.Trips.{TellsDamage, LimitsTrip}
+use Rattle.std.specs.Arc.{arc_value}
+use Rattle.table_cursor.specs.Agreeing.{IsDamageOf}
+use Rattle.table_cursor.specs.Trips.{TellsDamage, TellsOf, LimitsTrip}
 use Rattle.table_cursor.specs.Views.{table_of, page_of, index_of, shown_by, StandsIn, WalksIn, keeps_on}
 use Rattle.table_cursor.specs.Walking.{in_front}
 use Rattle.table_cursor.specs.StandingLaws.{stands_among}
-use Rattle.table_cursor.proofs.Tripping.{undamaged, nowhere, read_unlimited}
+use Rattle.table_cursor.proofs.Tripping.{undamaged, nowhere, read_unlimited, damage_told}
 use Rattle.table_cursor.proofs.trips.walk.Goals as goal
 
 pub returns-in-Err-clause-undamaged : goal.returns-in-Err-clause-undamaged
@@ -55,3 +57,18 @@ returns-in-Err-clause-unlimited g c = λ full es. subst (LimitsTrip full es) (sy
 pub returns-in-Err-next-clause-unlimited : goal.returns-in-Err-next-clause-unlimited
 returns-in-Err-next-clause-unlimited g c = λ full es.
     subst (LimitsTrip full es) (sym c.from-in-Err-next.ensures) (read_unlimited full es c.in-Err-next.why)
+
+pub returns-in-Err-clause-damage : goal.returns-in-Err-clause-damage
+returns-in-Err-clause-damage g c =
+    let was = table_of c.args.cursor.now in
+    subst (TellsOf (IsDamageOf g.P.File.TableHandle was)) (sym c.from.ensures)
+    (damage_told g.P.File.TableHandle (table_of c.first.new.self) was _ c.in-Err.why
+    (ap arc_value c.first.ensures.moves.keeps.table) c.in-Err.ensures.moves.damage)
+
+pub returns-in-Err-next-clause-damage : goal.returns-in-Err-next-clause-damage
+returns-in-Err-next-clause-damage g c =
+    let was = table_of c.args.cursor.now in
+    let since = c.next.ensures.moves.keeps.table ∙ c.walk.invariant.keeps.table in
+    subst (TellsOf (IsDamageOf g.P.File.TableHandle was)) (sym c.from-in-Err-next.ensures)
+    (damage_told g.P.File.TableHandle (table_of c.next.new.self) was _ c.in-Err-next.why
+    (ap arc_value since) c.in-Err-next.ensures.moves.damage)

@@ -1,4 +1,4 @@
-use Rattle.std.proofs.Common.{◌≡◌, ◌+◌, ◌-◌, ◌∙◌, length, take, drop, ap, sym, subst, arith, length-drop}
+use Rattle.std.proofs.Common.{◌≡◌, ◌+◌, ◌-◌, ◌∙◌, inl, inr, length, take, drop, ap, sym, subst, arith, length-drop}
 use Rattle.std.specs.Prelude.{min}
 use Rattle.table_file.specs.Damages.{IsPlaceOfDamage}
 use Rattle.table_file.proofs.Openings.{tail_long, whole_tail}
@@ -48,3 +48,10 @@ returns-clause-place g c = λ told.
     let long : length bytes ≡ c.args.row.now.bytes =
     omega (arith, c.requires, ap length read, c.if-bytes-ne48.false, ap length whole, length-drop (c.args.row.now.bytes - 48) bytes) in
     footer_place c.args.row.now bytes c.as_slice-bytes.result.now c.requires long (read ∙ whole) c.in-None.ensures.none
+
+pub returns-then-bytes-ne48-clause-by_row : goal.returns-then-bytes-ne48-clause-by_row
+returns-then-bytes-ne48-clause-by_row g c =
+    inr (inl (omega (arith, c.requires), omega (arith, c.requires)))
+
+pub returns-clause-by_row : goal.returns-clause-by_row
+returns-clause-by_row g c = inr (inl (omega (arith, c.requires), omega (arith, c.requires)))

@@ -62,3 +62,9 @@ returns-clause-behind g c = λ e f there then_there.
     let shown : 0 < length new.page.entries → ShowsOf g.P.File.TableHandle table new.index new.page =
     subst (λ t. 0 < length new.page.entries → ShowsOf g.P.File.TableHandle (arc_value t) new.index new.page) c.go-moved.ensures.turns.table new.shown in
     rises_on g.P.File.TableHandle table cursor.index cursor.page cursor.shown cursor.sorted c.go-moved.result _ new.index new.page e f shown within c.go-moved.ensures.lands (c.next_step-step.ensures.lands new.page) c.go-moved.ensures.turns.nothing there then_there
+
+pub returns-clause-ends : goal.returns-clause-ends
+returns-clause-ends g c = λ last here.
+    let new = c.go-moved.new.self in
+    let stays = c.go-moved.ensures.stays (c.next_step-step.ensures.ends last here) in
+    (stays.0, nothing_there new.page.entries new.page.place stays.1, stays.2)

@@ -50,3 +50,9 @@ returns-clause-before g c = λ e f there then_there.
 
 pub returns-clause-falls : goal.returns-clause-falls
 returns-clause-falls g c = λ e f there then_there. entry_asym f e (returns-clause-before g c e f there then_there)
+
+pub returns-clause-begins : goal.returns-clause-begins
+returns-clause-begins g c = λ last here.
+    let new = c.go-moved.new.self in
+    let stays = c.go-moved.ensures.stays (c.previous_step-step.ensures.begins last here) in
+    (stays.0, nothing_there new.page.entries new.page.place stays.1, stays.2)

@@ -1,7 +1,9 @@
-use Rattle.std.proofs.Common.{◌≡◌, ◌∙◌, List, ℕ, Some, sym, subst, refl, rules}
+use Rattle.std.proofs.Common.{◌≡◌, ◌∙◌, inl, inr, List, ℕ, Some, ap, sym, subst, refl, arith, rules}
 use Rattle.table_file.specs.Form.{index_bytes}
 use Rattle.table_file.specs.Opening.{OpensAs}
+use Rattle.table_file.specs.Damages.{IsPlaceByRow}
 use Rattle.table_file.proofs.Openings.{opens}
+use Rattle.table_file.proofs.Placing.{told_on}
 use Rattle.table_file.proofs.Searching.{index_ascends, index_short}
 use Rattle.table_file.proofs.table.Table.open.Goals as goal
 
@@ -32,4 +34,26 @@ invariant_of-result g c = record {
   some = c.in-Ok-read_index.ensures.index.some;
   short = index_short c.in-Ok-read_footer.footer.index c.in-Ok-read_index.items.items c.in-Ok-read_index.ensures.index;
   ascending = index_ascends c.in-Ok-read_footer.footer.index c.in-Ok-read_index.items.items c.in-Ok-read_index.ensures.index;
+}
+
+pub returns-in-Err-read_index-clause-by_row : goal.returns-in-Err-read_index-clause-by_row
+returns-in-Err-read_index-clause-by_row g c =
+    let f = c.in-Ok-read_footer.footer in
+    told_on (λ at. at ≡ f.index) (IsPlaceByRow c.args.row) c.in-Err-read_index.why
+    (λ at is. inr (inr (f, c.in-Ok-read_footer.ensures.agrees, inl is)))
+    c.in-Err-read_index.ensures.by_footer
+
+pub returns-in-Err-read_filter-clause-by_row : goal.returns-in-Err-read_filter-clause-by_row
+returns-in-Err-read_filter-clause-by_row g c =
+    let f = c.in-Ok-read_footer.footer in
+    told_on (λ at. at ≡ f.filter) (IsPlaceByRow c.args.row) c.in-Err-read_filter.why
+    (λ at is. inr (inr (f, c.in-Ok-read_footer.ensures.agrees, inr is)))
+    c.in-Err-read_filter.ensures.place
+
+pub returns-clause-fits : goal.returns-clause-fits
+returns-clause-fits g c = record {
+  footer = c.in-Ok-read_footer.footer;
+  agrees = c.in-Ok-read_footer.ensures.agrees;
+  index = c.in-Ok-read_index.ensures.index;
+  filter_len = c.in-Ok-read_filter.ensures.long;
 }

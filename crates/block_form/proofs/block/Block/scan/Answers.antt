@@ -3,16 +3,17 @@ use Rattle.std.specs.Prelude.{slice_get}
 use Rattle.peb_base.specs.Entries.{comes_before, AreSorted}
 use Rattle.peb_base.specs.declared.entry.Entry.{Entry}
 use Rattle.block_form.specs.Walks.{HoldsEntries}
-use Rattle.block_form.proofs.Restarts.{found_start}
+use Rattle.block_form.proofs.Restarts.{found_near}
 use Rattle.block_form.proofs.Scans.{At, at, found_on, found_here}
-use Rattle.block_form.proofs.block.Block.seek.Goals as goal
+use Rattle.block_form.proofs.block.Block.scan.Goals as goal
 
 pub scan-init : goal.scan-init
-scan-init c =
-    let holds = subst (λ (es : List Entry). HoldsEntries c.self.inside.entries.now c.self.inside.count es) c.self.view_is c.self.invariant in
-    let place = c.restart_before-place.result in
-    let lt = c.restart_before-place.ensures.inside in
-    (omega (arith, lt), c.go_to_restart-at.ensures.at, c.go_to_restart-at.ensures.key, found_start c.args.key.now c.args.number place c.args.self.now lt holds.each (λ e there. subst (λ n. (place ≡ 0) ⊎ (comes_before e.key e.number c.args.key.now n ≡ true)) c.packed.ensures.number (c.restart_before-place.ensures.passed e there)))
+scan-init c = (
+  omega (arith, c.requires.place),
+  c.requires.at,
+  c.requires.key,
+  found_near c.args.key.now c.args.number c.args.start c.args.self.now c.requires.near.0,
+)
 
 pub returns-then-not-is_passed-clause-place : goal.returns-then-not-is_passed-clause-place
 returns-then-not-is_passed-clause-place c =
@@ -20,7 +21,7 @@ returns-then-not-is_passed-clause-place c =
     let so_far = c.scan.invariant in
     let here = at c.scan.place c.args.self.now (omega (arith, c.scan-test.true, holds.count_is)) in
     let passed : comes_before here.entry.key here.entry.number c.args.key.now c.args.number ≡ false =
-    ap (comes_before here.entry.key here.entry.number c.args.key.now) (sym c.packed-in-scan.ensures.number) ∙ sym (c.is_passed.ensures here.entry here.got) ∙ c.if-not-is_passed.true in
+    sym (c.is_passed.ensures here.entry here.got) ∙ c.if-not-is_passed.true in
     found_here c.args.key.now c.args.number c.scan.place c.args.self.now here passed so_far.3
 
 pub scan-preserved : goal.scan-preserved
@@ -30,5 +31,5 @@ scan-preserved c =
     let lt : c.scan.place < length c.args.self.now = omega (arith, c.scan-test.true, holds.count_is) in
     let here = at c.scan.place c.args.self.now lt in
     let passed : comes_before here.entry.key here.entry.number c.args.key.now c.args.number ≡ true =
-    ap (comes_before here.entry.key here.entry.number c.args.key.now) (sym c.packed-in-scan.ensures.number) ∙ sym (c.is_passed.ensures here.entry here.got) ∙ c.if-not-is_passed.false in
+    sym (c.is_passed.ensures here.entry here.got) ∙ c.if-not-is_passed.false in
     (omega (arith, lt), c.step-at.ensures.at, c.step-at.ensures.key, found_on c.args.key.now c.args.number c.scan.place c.args.self.now here passed so_far.3)

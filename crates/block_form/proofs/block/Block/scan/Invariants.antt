@@ -3,7 +3,7 @@ use Rattle.std.specs.Prelude.{slice_get}
 use Rattle.peb_base.specs.declared.entry.Entry.{Entry}
 use Rattle.block_form.specs.Spots.{offset_of}
 use Rattle.block_form.proofs.Scans.{FoundFrom}
-use Rattle.block_form.proofs.block.Block.seek.Given as goal
+use Rattle.block_form.proofs.block.Block.scan.Given as goal
 
 abbrev pub invariant-scan : goal.invariant-scan
 invariant-scan l =
