@@ -192,8 +192,12 @@ item_within : (place : ℕ) (before : Bytes) (above end : ℕ) (items : List Ind
 item_within place before above end [] index item are there = cc
 item_within place before above end (x ∷ items) zero item are there =
     let same : x.place ≡ item.place = ap (λ (i : IndexItem). i.place) (item_is x item there) in
-    omega (arith, same, are.0.place_is,
-    items_end (place + x.len) x.key x.number end items are.1)
+    omega (
+      arith,
+      same,
+      are.0.place_is,
+      items_end (place + x.len) x.key x.number end items are.1,
+    )
 item_within place before above end (x ∷ items) (suc index) item are there =
     item_within (place + x.len) x.key x.number end items index item are.1 there
 
@@ -205,9 +209,14 @@ damage_within g t row (Ok x) fits told = tt
 damage_within g t row (Err Fault) fits told = tt
 damage_within g t row (Err (Limit kind most)) fits told = tt
 damage_within g t row (Err (Damaged number at)) fits told =
-    omega (arith, told.is.place,
-    item_within 0 [] 0 fits.footer.index t.items told.index told.is.item
-    fits.index.each told.is.indexed, fits.agrees.adjoin, fits.agrees.end)
+    omega (
+      arith,
+      told.is.place,
+      item_within 0 [] 0 fits.footer.index t.items told.index told.is.item
+          fits.index.each told.is.indexed,
+      fits.agrees.adjoin,
+      fits.agrees.end,
+    )
 damage_within g t row (Err Memory) fits told = tt
 
 -- where a file isn't there damage is told at 0, where it is there none is

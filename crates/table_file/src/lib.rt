@@ -25,8 +25,8 @@ mod tests;
 
 pub use index_item::IndexItem;
 pub use laws::{
-    law_blocks, law_cut, law_held, law_holds, law_length, one_opening, one_place,
-    opens_as_written, written_opens,
+    law_blocks, law_cut, law_held, law_holds, law_length, one_opening, one_place, opens_as_written,
+    written_opens,
 };
 pub use put_fault::PutFault;
 pub use table::Table;

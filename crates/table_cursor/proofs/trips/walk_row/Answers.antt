@@ -47,8 +47,8 @@ pub returns-in-Err-clause-absent : goal.returns-in-Err-clause-absent
 returns-in-Err-clause-absent g c = λ full es told w found.
     let row = c.args.row in
     let none : (bytes : List ℕ)
-        → (g.P.Port.table_files c.args.port).sealed row.number ≡ Some bytes
-        → TellsDamage c.from.result → ⊥ = λ bytes there tells.
+    → (g.P.Port.table_files c.args.port).sealed row.number ≡ Some bytes
+    → TellsDamage c.from.result → ⊥ = λ bytes there tells.
     c.in-Err.ensures.damaged (damage_opening c.in-Err.why (subst TellsDamage c.from.ensures tells))
     told (table_bytes full row.number es)
     (subst (λ l. (g.P.Port.table_files c.args.port).sealed row.number ≡ Some l)
