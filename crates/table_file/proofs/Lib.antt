@@ -11,5 +11,6 @@ pub mod Reopened
 pub mod Searching
 pub mod Spelled
 pub mod Summing
+pub mod Taken
 pub mod Written
 mod CutOnce

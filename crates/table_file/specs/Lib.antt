@@ -12,4 +12,6 @@ pub mod Opening
 pub mod Rows
 pub mod Sums
 pub mod Tables
+pub mod Taking
+pub mod TakingLaws
 pub mod Writing

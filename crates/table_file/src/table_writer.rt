@@ -1,6 +1,6 @@
 //! Tables that are written.
 
-ghost use Rattle.std.specs.Prelude.{◌≡◌, ◌⊎◌, ◌<◌, ◌≤◌, ◌+◌, ◌++◌, ◌∷◌, [], List, Some, None, Err, length, IsTrue, IsSome, IfOk, IfErr, OnOk, OnErr};
+ghost use Rattle.std.specs.Prelude.{◌≡◌, ◌⊎◌, ◌<◌, ◌≤◌, ◌+◌, ◌-◌, ◌++◌, ◌∷◌, [], List, Some, None, Err, length, IsTrue, IsSome, IfOk, IfErr, OnOk, OnErr};
 ghost use Rattle.disk_model.specs.Images.{Rose};
 ghost use Rattle.peb_base.specs.Entries.{AreSorted};
 ghost use Rattle.peb_base.specs.EntryRefs.{entry_of};
@@ -8,12 +8,13 @@ ghost use Rattle.peb_base.specs.Tables.{last_key};
 ghost use Rattle.peb_base.specs.declared.entry.Entry.{Entry};
 ghost use Rattle.block_form.specs.Form.{block_bytes};
 ghost use Rattle.disk_model.specs.Tables.{with_table};
-ghost use Rattle.table_file.specs.Form.{last_number, body_bytes, blocks_of, with_last, footer_bytes};
+ghost use Rattle.table_file.specs.Form.{last_number, body_bytes, blocks_of, blocks_table, with_last, footer_bytes};
 ghost use Rattle.table_file.specs.Gathers.{Gathers};
 ghost use Rattle.table_file.specs.Indexes.{Indexes};
 ghost use Rattle.table_file.specs.Limits.{index_fault, blocks_fault, push_fault, IsRefused};
 ghost use Rattle.table_file.specs.Sums.{Sums, EndsWith};
 ghost use Rattle.table_file.specs.Tables.{IsTableOf, IsRowAt};
+ghost use Rattle.table_file.specs.Taking.{last_length, pushed_length, rest_length, Takes};
 ghost use Rattle.table_file.specs.declared.put_fault.PutFault.TheVariants.{Fault};
 
 use crate::filling::filter_with;
@@ -80,6 +81,8 @@ fn close_block<M: Maker>(
         ++ block_bytes builder.old.entries) }
     ensures refused { IsRefused
         (index_fault (index.old.bytes + 22 + length summary.now.largest)) result }
+    ensures taken { Takes (length (block_bytes builder.old.entries))
+        (M.taken maker.old) (M.taken maker.new) result }
     ensures begun { M.begun maker.new ≡ M.begun maker.old }
     ensures sealed { M.sealed maker.new ≡ M.sealed maker.old }
     ensures gone { M.gone maker.new ≡ M.gone maker.old }
@@ -114,6 +117,8 @@ fn close_last<M: Maker>(
     ensures refused { (blocks : List (List Entry)) → Indexes index.old blocks
         → EndsWith summary.now builder.old.entries
         → IsRefused (blocks_fault (with_last blocks builder.old.entries)) result }
+    ensures taken { Takes (last_length builder.old.entries)
+        (M.taken maker.old) (M.taken maker.new) result }
     ensures full { builder.new.full ≡ builder.old.full }
     ensures begun { M.begun maker.new ≡ M.begun maker.old }
     ensures sealed { M.sealed maker.new ≡ M.sealed maker.old }
@@ -146,6 +151,8 @@ fn write_tail<M: Maker>(
         (λ file. IsTrue M.File.tells
         → M.sealed maker.new
         ≡ with_table (M.File.number file) (M.File.bytes file) (M.sealed maker.old)) }
+    ensures taken { Takes (length index.now + (length filter.now + 48))
+        (M.taken maker.old) (M.taken maker.new) result }
     ensures ended { OnOk result (M.begun maker.new ≡ None) }
     ensures unsealed { OnErr result (M.sealed maker.new ≡ M.sealed maker.old) }
     ensures gone { M.gone maker.new ≡ M.gone maker.old }
@@ -183,6 +190,10 @@ fn seal_table<M: Maker>(
         (λ table. IsTrue M.File.tells
         → M.sealed maker.new ≡ with_table number (M.File.bytes table.file) (M.sealed maker.old)) }
     ensures fault { IfErr result (λ fault. (fault ≡ PutFault.Memory) ⊎ (fault ≡ PutFault.Fault)) }
+    ensures taken { (es : List Entry) (blocks : List (List Entry))
+        → Gathers index.old hashes.now summary.now blocks es
+        → Takes (length (blocks_table number blocks es) - length (body_bytes blocks))
+        (M.taken maker.old) (M.taken maker.new) result }
     ensures ended { OnOk result (M.begun maker.new ≡ None) }
     ensures unsealed { OnErr result (M.sealed maker.new ≡ M.sealed maker.old) }
     ensures gone { M.gone maker.new ≡ M.gone maker.old }
@@ -230,20 +241,24 @@ impl TableWriter {
         })
     }
 
-    /// Begins the table of this number, which is to be one of this level.
+    /// Begins the table of this number, which is to be one of this level. The maker takes no byte.
     ///
     /// `Fault` comes only where the maker's count of faults rose.
     pub fn start<M: Maker>(&mut self, maker: &mut M, number: u64, level: u8) -> Result<(), PutFault>
+        // what it gives
         ensures begun { OnOk result
             (HasPushed M.File.tells (M.begun maker.new) (M.written maker.new) self.new []) }
-        ensures fault { IfErr result (λ why. why ≡ PutFault.Fault) }
         ensures number { OnOk result (self.new.number ≡ number) }
         ensures level { OnOk result (self.new.level ≡ level) }
-        ensures block { block_length self.new ≡ block_length self.old }
-        ensures sealed { M.sealed maker.new ≡ M.sealed maker.old }
-        ensures gone { M.gone maker.new ≡ M.gone maker.old }
+        // when it fails
+        ensures fault { IfErr result (λ why. why ≡ PutFault.Fault) }
         ensures later { M.faults maker.old ≤ M.faults maker.new }
         ensures cause { result ≡ Err Fault → Rose (M.faults maker.old) (M.faults maker.new) }
+        // what stays
+        ensures block { block_length self.new ≡ block_length self.old }
+        ensures taken { M.taken maker.new ≡ M.taken maker.old }
+        ensures sealed { M.sealed maker.new ≡ M.sealed maker.old }
+        ensures gone { M.gone maker.new ≡ M.gone maker.old }
     {
         maker.begin(number)?;
         begin_block(&mut self.builder);
@@ -256,7 +271,8 @@ impl TableWriter {
     }
 
     /// Appends an entry, which comes after those that were pushed since `start`. The
-    /// maker is as the writer's last call left it.
+    /// maker is as the writer's last call left it. It takes the bytes of the block that the entry
+    /// fills, if it fills one, and at an error some first of them or none.
     ///
     /// `Limit` comes exactly where the table has all the entries that a table may have, or where the entry
     /// fills a block whose item would make the index too long. `Fault` comes only where the maker's count
@@ -265,23 +281,32 @@ impl TableWriter {
         requires { (es : List Entry)
             × HasPushed M.File.tells (M.begun maker.old) (M.written maker.old) self.old es
             × AreSorted (es ++ entry_of entry ∷ []) }
+        // what it gives
         ensures pushed { OnOk result
             ((es : List Entry)
             → HasPushed M.File.tells (M.begun maker.old) (M.written maker.old) self.old es
             → AreSorted (es ++ entry_of entry.entry ∷ [])
             → HasPushed M.File.tells (M.begun maker.new) (M.written maker.new) self.new
             (es ++ entry_of entry.entry ∷ [])) }
+        // what it leaves
+        ensures taken { (es : List Entry)
+            → HasPushed M.File.tells (M.begun maker.old) (M.written maker.old) self.old es
+            → AreSorted (es ++ entry_of entry.entry ∷ [])
+            → Takes (pushed_length (block_length self.old) es (entry_of entry.entry))
+            (M.taken maker.old) (M.taken maker.new) result }
+        // when it fails
         ensures limit { (es : List Entry)
             → HasPushed M.File.tells (M.begun maker.old) (M.written maker.old) self.old es
             → AreSorted (es ++ entry_of entry.entry ∷ [])
             → IsRefused (push_fault (block_length self.old) es (entry_of entry.entry)) result }
+        ensures later { M.faults maker.old ≤ M.faults maker.new }
+        ensures cause { result ≡ Err Fault → Rose (M.faults maker.old) (M.faults maker.new) }
+        // what stays
         ensures number { self.new.number ≡ self.old.number }
         ensures level { self.new.level ≡ self.old.level }
         ensures block { block_length self.new ≡ block_length self.old }
         ensures sealed { M.sealed maker.new ≡ M.sealed maker.old }
         ensures gone { M.gone maker.new ≡ M.gone maker.old }
-        ensures later { M.faults maker.old ≤ M.faults maker.new }
-        ensures cause { result ≡ Err Fault → Rose (M.faults maker.old) (M.faults maker.new) }
     {
         if self.hashes.len() as u64 >= MOST_ENTRIES {
             return Err(PutFault::Limit(LimitKind::Entries, MOST_ENTRIES));
@@ -305,7 +330,8 @@ impl TableWriter {
     }
 
     /// Closes the table, of which an entry was pushed since `start`, makes it durable and gives it.
-    /// The maker is as the writer's last call left it.
+    /// The maker is as the writer's last call left it. It takes what the table lacks: the last
+    /// block, index, filter and footer, and at an error some first bytes of these or none.
     ///
     /// `Limit` comes exactly where the last block's item would make the index too long.
     /// `Fault` comes only where the maker's count of faults rose. After an error the writer is
@@ -314,26 +340,35 @@ impl TableWriter {
         requires { (es : List Entry)
             × HasPushed M.File.tells (M.begun maker.old) (M.written maker.old) self.old es
             × (0 < length es) }
+        // what it gives
         ensures table { IfOk result
             (λ table. (es : List Entry)
             → HasPushed M.File.tells (M.begun maker.old) (M.written maker.old) self.old es
             → 0 < length es
             → IsTableOf M.File.TableHandle table (blocks_of (block_length self.old) es) es) }
         ensures row { IfOk result (λ table. IsRowAt table.row self.old.number self.old.level 0) }
+        // what it leaves
         ensures sealed { IfOk result
             (λ table. IsTrue M.File.tells
             → M.sealed maker.new
             ≡ with_table self.old.number (M.File.bytes table.file) (M.sealed maker.old)) }
+        ensures unsealed { OnErr result (M.sealed maker.new ≡ M.sealed maker.old) }
+        ensures ended { OnOk result (M.begun maker.new ≡ None) }
+        ensures taken { (es : List Entry)
+            → HasPushed M.File.tells (M.begun maker.old) (M.written maker.old) self.old es
+            → 0 < length es
+            → Takes (rest_length (block_length self.old) self.old.number es)
+            (M.taken maker.old) (M.taken maker.new) result }
+        // when it fails
         ensures limit { (es : List Entry)
             → HasPushed M.File.tells (M.begun maker.old) (M.written maker.old) self.old es
             → 0 < length es
             → IsRefused (blocks_fault (blocks_of (block_length self.old) es)) result }
-        ensures block { block_length self.new ≡ block_length self.old }
-        ensures ended { OnOk result (M.begun maker.new ≡ None) }
-        ensures unsealed { OnErr result (M.sealed maker.new ≡ M.sealed maker.old) }
-        ensures gone { M.gone maker.new ≡ M.gone maker.old }
         ensures later { M.faults maker.old ≤ M.faults maker.new }
         ensures cause { result ≡ Err Fault → Rose (M.faults maker.old) (M.faults maker.new) }
+        // what stays
+        ensures block { block_length self.new ≡ block_length self.old }
+        ensures gone { M.gone maker.new ≡ M.gone maker.old }
     {
         match close_last(
             self.alloc,

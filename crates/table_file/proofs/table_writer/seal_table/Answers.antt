@@ -1,4 +1,4 @@
-use Rattle.std.proofs.Common.{◌≡◌, ◌+◌, ◌++◌, ◌∙◌, length, ap, sym, refl, arith, rules, IsTrue}
+use Rattle.std.proofs.Common.{◌≡◌, ◌+◌, ◌-◌, ◌++◌, ◌∙◌, ℕ, length, ap, sym, subst, refl, arith, rules, IsTrue}
 use Rattle.std.proofs.lemmas.List.{length-map}
 use Rattle.peb_base.specs.Choice.{mixed}
 use Rattle.peb_base.specs.Tables.{filter_length}
@@ -6,6 +6,9 @@ use Rattle.peb_base.specs.declared.entry.Entry.{Entry}
 use Rattle.bloom.specs.Filter.{filter_of}
 use Rattle.table_file.specs.Form.{body_bytes, index_bytes, items_from, key_filter, footer_bytes, blocks_table}
 use Rattle.table_file.specs.declared.footer.Footer.{Footer}
+use Rattle.disk_model.specs.Tables.{capped}
+use Rattle.table_file.specs.Taking.{TakesAtMost}
+use Rattle.table_file.specs.TakingLaws.{takes_none, takes_failed}
 use Rattle.table_file.proofs.Spelled.{table_spelled, length-table, same_number}
 use Rattle.table_file.proofs.table_writer.seal_table.Goals as goal
 
@@ -53,3 +56,29 @@ returns-clause-table g c = λ es blocks gathers wrote.
 
 pub returns-clause-row : goal.returns-clause-row
 returns-clause-row g c = record { number_is = c.in_ok-row.ensures.number; level_is = c.in_ok-row.ensures.level; tier_is = c.in_ok-row.ensures.tier }
+
+pub returns-in_err-row-clause-taken : goal.returns-in_err-row-clause-taken
+returns-in_err-row-clause-taken g c = λ es blocks gathers.
+    takes_failed c.from_residual-in_err-row.result _ c.from_residual-in_err-row.ensures.1 _ _ _
+    (takes_none _ _ (g.met.M.Maker.taken_fits c.args.maker.now))
+
+pub returns-in_err-file-clause-taken : goal.returns-in_err-file-clause-taken
+returns-in_err-file-clause-taken g c = λ es blocks gathers.
+    let text : c.in_ok-text.text.items ≡ index_bytes (items_from 0 blocks) = c.in_ok-text.ensures ∙ ap index_bytes (c.items.ensures.items ∙ gathers.index_is.items) in
+    let counted : length c.args.hashes.now ≡ length es = ap length gathers.hashes_are ∙ length-map es (λ (e : Entry). mixed e.key) in
+    let filled : c.in_ok-filter.filter ≡ filter_of (length c.args.hashes.now) c.args.hashes.now = search rules in
+    let filter : c.in_ok-filter.filter ≡ key_filter es = filled ∙ (λ i. filter_of (counted i) (gathers.hashes_are i)) in
+    let rest : length c.deref.result.now + (length c.bytes-3.result.now + 48) ≡ length (blocks_table c.args.number blocks es) - length (body_bytes blocks) =
+    omega (arith, ap length c.deref.ensures.value, ap length c.bytes-3.ensures.value, ap length text, ap length filter, length-table c.args.number blocks es) in
+    takes_failed c.from_residual-in_err-file.result _ c.from_residual-in_err-file.ensures.1 _ _ _
+    (subst (λ (n : ℕ). TakesAtMost n (g.M.Maker.taken c.args.maker.now) (g.M.Maker.taken c.write_tail.new.maker)) rest c.in_err-file.ensures.taken)
+
+pub returns-clause-taken : goal.returns-clause-taken
+returns-clause-taken g c = λ es blocks gathers.
+    let text : c.in_ok-text.text.items ≡ index_bytes (items_from 0 blocks) = c.in_ok-text.ensures ∙ ap index_bytes (c.items.ensures.items ∙ gathers.index_is.items) in
+    let counted : length c.args.hashes.now ≡ length es = ap length gathers.hashes_are ∙ length-map es (λ (e : Entry). mixed e.key) in
+    let filled : c.in_ok-filter.filter ≡ filter_of (length c.args.hashes.now) c.args.hashes.now = search rules in
+    let filter : c.in_ok-filter.filter ≡ key_filter es = filled ∙ (λ i. filter_of (counted i) (gathers.hashes_are i)) in
+    let rest : length c.deref.result.now + (length c.bytes-3.result.now + 48) ≡ length (blocks_table c.args.number blocks es) - length (body_bytes blocks) =
+    omega (arith, ap length c.deref.ensures.value, ap length c.bytes-3.ensures.value, ap length text, ap length filter, length-table c.args.number blocks es) in
+    c.in_ok-file.ensures.taken ∙ ap (λ (n : ℕ). capped (g.M.Maker.taken c.args.maker.now + n)) rest

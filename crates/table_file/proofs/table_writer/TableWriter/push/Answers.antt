@@ -1,4 +1,4 @@
-use Rattle.std.proofs.Common.{◌≡◌, ◌<◌, ◌≤◌, ◌∷◌, ◌++◌, ◌∙◌, [], length, ap, sym, subst, Err, arith, rules, true}
+use Rattle.std.proofs.Common.{◌≡◌, ◌<◌, ◌+◌, ◌≤◌, ◌∷◌, ◌++◌, ◌∙◌, [], length, ap, sym, subst, Err, arith, rules, true, inl, inr}
 use Rattle.std.proofs.lemmas.List.{length-map}
 use Rattle.peb_base.specs.EntryRefs.{entry_of}
 use Rattle.peb_base.specs.Choice.{mixed}
@@ -11,6 +11,11 @@ use Rattle.table_file.specs.Limits.{IsRefused}
 use Rattle.table_file.specs.Sums.{Sums}
 use Rattle.table_file.specs.Writing.{Keeps}
 use Rattle.table_file.proofs.Cuts.{sorted_begun, keeps_on, keeps_closed, cut_closed, fault_closed, length-none}
+use Rattle.std.proofs.lemmas.Bool.{cases_lt, true≢false}
+use Rattle.disk_model.specs.Tables.{capped}
+use Rattle.table_file.specs.Taking.{pushed_length, TakesAtMost}
+use Rattle.table_file.specs.TakingLaws.{takes_none, takes_failed}
+use Rattle.table_file.proofs.Taken.{pushed_closed, pushed_open}
 use Rattle.table_file.proofs.Summing.{last_key-push, last_number-push}
 use Rattle.table_file.proofs.table_writer.TableWriter.push.Goals as goal
 
@@ -72,3 +77,55 @@ returns-in-Err-clause-limit g c = λ es pushed sorted.
     let key : c.add.new.self.largest ≡ last_key (cut.begun ++ e ∷ []) = sums.largest ∙ last_key-push es e ∙ sym (last_key-push cut.begun e) in
     let same = fault_closed w.builder.full es e w.index c.add.new.self.largest few long pushed.keeps.index_is key in
     subst (λ r. IsRefused {T = Unit {0}} r (Err c.in-Err.fault)) (sym same) c.in-Err.ensures.refused
+
+pub returns-in_err-push-clause-taken : goal.returns-in_err-push-clause-taken
+returns-in_err-push-clause-taken g c = λ es pushed sorted.
+    takes_failed c.from_residual.result _ c.from_residual.ensures.1 _ _ _
+    (takes_none _ _ (g.met.M.Maker.taken_fits c.args.maker.now))
+
+pub returns-then-not-is_full-clause-taken : goal.returns-then-not-is_full-clause-taken
+returns-then-not-is_full-clause-taken g c = λ es pushed sorted.
+    let w = c.args.self.now in
+    let e = entry_of c.args.entry in
+    let mine : c.push-2.new.self.entries ≡ (cut_of w.builder.full es).begun ++ e ∷ [] =
+    ap (λ (b : Building). b.entries) c.push-2.ensures ∙ ap (λ l. l ++ e ∷ []) pushed.keeps.open_is in
+    let short : length (block_bytes ((cut_of w.builder.full es).begun ++ e ∷ [])) < w.builder.full =
+    elim (cases_lt (length (block_bytes ((cut_of w.builder.full es).begun ++ e ∷ []))) w.builder.full) [
+      | inl lt ↦ lt
+      | inr le ↦ absurd (true≢false (sym (c.is_full.ensures.1 (omega (
+        arith,
+        le,
+        ap (λ (b : Building). b.full) c.push-2.ensures,
+        ap (λ l. length (block_bytes l)) mine,
+      )))
+          ∙ c.if-not-is_full.true))
+    ] in
+    let none = pushed_open w.builder.full es e short in
+    let fits = g.met.M.Maker.taken_fits c.args.maker.now in
+    omega (arith, none, fits)
+
+pub returns-in-Ok-clause-taken : goal.returns-in-Ok-clause-taken
+returns-in-Ok-clause-taken g c = λ es pushed sorted.
+    let w = c.args.self.now in
+    let e = entry_of c.args.entry in
+    let mine : c.push-2.new.self.entries ≡ (cut_of w.builder.full es).begun ++ e ∷ [] =
+    ap (λ (b : Building). b.entries) c.push-2.ensures ∙ ap (λ l. l ++ e ∷ []) pushed.keeps.open_is in
+    let yes_ : c.is_full.result ≡ true = search rules in
+    let long : w.builder.full ≤ length (block_bytes ((cut_of w.builder.full es).begun ++ e ∷ [])) =
+    omega (arith, c.is_full.ensures.0 yes_, ap (λ (b : Building). b.full) c.push-2.ensures, ap (λ l. length (block_bytes l)) mine) in
+    let count : length (block_bytes c.push-2.new.self.entries) ≡ pushed_length w.builder.full es e =
+    ap (λ l. length (block_bytes l)) mine ∙ sym (pushed_closed w.builder.full es e long) in
+    c.in-Ok.ensures.taken ∙ ap (λ n. capped (g.M.Maker.taken c.args.maker.now + n)) count
+
+pub returns-in-Err-clause-taken : goal.returns-in-Err-clause-taken
+returns-in-Err-clause-taken g c = λ es pushed sorted.
+    let w = c.args.self.now in
+    let e = entry_of c.args.entry in
+    let mine : c.push-2.new.self.entries ≡ (cut_of w.builder.full es).begun ++ e ∷ [] =
+    ap (λ (b : Building). b.entries) c.push-2.ensures ∙ ap (λ l. l ++ e ∷ []) pushed.keeps.open_is in
+    let yes_ : c.is_full.result ≡ true = search rules in
+    let long : w.builder.full ≤ length (block_bytes ((cut_of w.builder.full es).begun ++ e ∷ [])) =
+    omega (arith, c.is_full.ensures.0 yes_, ap (λ (b : Building). b.full) c.push-2.ensures, ap (λ l. length (block_bytes l)) mine) in
+    let count : length (block_bytes c.push-2.new.self.entries) ≡ pushed_length w.builder.full es e =
+    ap (λ l. length (block_bytes l)) mine ∙ sym (pushed_closed w.builder.full es e long) in
+    subst (λ n. TakesAtMost n (g.M.Maker.taken c.args.maker.now) (g.M.Maker.taken c.close_block.new.maker)) count c.in-Err.ensures.taken
