@@ -6,6 +6,9 @@ pub mod Indexing
 pub mod Lengths
 pub mod Openings
 pub mod Parting
+pub mod PieceLaws
+pub mod PieceSteps
+pub mod Ranges
 pub mod Placing
 pub mod Reopened
 pub mod Searching

@@ -9,6 +9,8 @@ pub mod Indexes
 pub mod Items
 pub mod Limits
 pub mod Opening
+pub mod PieceWriting
+pub mod Pieces
 pub mod Rows
 pub mod Sums
 pub mod Tables

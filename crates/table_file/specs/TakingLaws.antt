@@ -1,5 +1,5 @@
 -- Laws of the bytes that a maker takes.
-use Rattle.std.proofs.Common.{◌≡◌, ℕ, ◌+◌, ◌^◌, ◌<◌, ◌≤◌, Bool, List, Result, length, sym, subst, arith}
+use Rattle.std.proofs.Common.{◌≡◌, ℕ, ◌+◌, ◌^◌, ◌<◌, ◌≤◌, Bool, List, Result, Ok, Err, length, sym, subst, arith}
 use Rattle.std.specs.Result.{IsErrAnd}
 use Rattle.std.proofs.lemmas.Result.{err_from_is_err_and}
 use Rattle.disk_model.specs.Tables.{capped, TakesSome}
@@ -48,3 +48,12 @@ pub takes_failed : {T E : Type 0} (r : Result T E) (Q : E → Type 0) → IsErrA
     → (count before now : ℕ) → TakesAtMost count before now → Takes count before now r
 takes_failed r Q err count before now takes =
     let p = err_from_is_err_and r err in subst (Takes count before now) (sym p.1) takes
+
+-- first so many bytes, then what a call takes
+pub takes_then : {T E : Type 0} (r : Result T E) (first second before between now : ℕ)
+    → between ≡ capped (before + first) → Takes second between now r
+    → Takes (first + second) before now r
+takes_then (Ok x) first second before between now all more =
+    takes_both first second before between now all more
+takes_then (Err e) first second before between now all more =
+    takes_on first second before between now all more
