@@ -1,6 +1,6 @@
 //! One level.
 
-ghost use Rattle.std.specs.Prelude.{◌≡◌, ◌≤◌, ℕ, [], ◌∷◌, length, set, get_or, vec_len, vec_capacity, IfOk, OnOk, OnErr, IfErr, IfSome, IfNone};
+ghost use Rattle.std.specs.Prelude.{◌≡◌, ◌≤◌, ℕ, suc, [], ◌∷◌, length, set, get_or, vec_len, vec_capacity, IfOk, OnOk, OnErr, IfErr, IfSome, IfNone};
 ghost use Rattle.std.specs.List.{AllByRecursion, AllZip};
 ghost use Rattle.guard_level.specs.TableLists.{below, above, IsAbsent, TakesFrom, AreShared};
 ghost use Rattle.peb_base.specs.Guards.{Ascend, guard_of, is_guard, LiesIn};
@@ -57,6 +57,7 @@ impl<T: TableLike + Drop> Level<T> {
     /// Lends the guard keys, which ascend strictly.
     pub fn keys(&self) -> &[Key]
         ensures keys { result.now ≡ self.now.keys }
+        ensures each { length self.now.tables ≡ suc (length self.now.keys) }
         ensures ascend { Ascend [] self.now.keys }
     {
         self.keys.items()
