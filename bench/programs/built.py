@@ -20,7 +20,7 @@ def needed(crate, uses):
 
 @contextmanager
 def copied(name, stands_on):
-    """Puts the program NAME, which stands on these crates, beside copies of them, and gives its folder."""
+    """Puts the program NAME, which stands on these crates, beside copies of them, with what is built of them, and gives its folder."""
     listed = [line.split(":") for line in (TOP / "crates.txt").read_text().splitlines() if line and line[0] != "#"]
     uses = {crate: low.split() for crate, low in listed} | {name: stands_on}
     with tempfile.TemporaryDirectory() as folder:
@@ -29,7 +29,7 @@ def copied(name, stands_on):
         if (TOP / "HANDLES").exists():
             shutil.copy(TOP / "HANDLES", folder)
         for crate in (line.split(":")[0] for line in lines[:-1]):
-            shutil.copytree(TOP / "crates" / crate, Path(folder) / "crates" / crate, ignore=shutil.ignore_patterns("out"))
+            shutil.copytree(TOP / "crates" / crate, Path(folder) / "crates" / crate)
         for source in (PROGRAMS / name).rglob("*.in"):
             copy = Path(folder) / "crates" / name / source.relative_to(PROGRAMS / name).with_suffix("")
             copy.parent.mkdir(parents=True, exist_ok=True)
