@@ -55,6 +55,10 @@ touched_on tells file a b c one two = record {
       (one.keeps t image le left);
 }
 
+-- the image has the log of this number, created to its end
+abbrev pub IsFinished : ℕ → Image → Type 0
+IsFinished n image = IsUnfinished (image (Log n)) → ⊥
+
 -- calls changed no file but this one, the first log that wasn't there: each one before it was
 pub record HasTouchedNextLog (tells : Bool) (file : JournalFile)
     (old new : JournalTold) : Type 0 where
@@ -62,8 +66,16 @@ pub record HasTouchedNextLog (tells : Bool) (file : JournalFile)
   pub some : 1 ≤ number
   pub named : file ≡ Log number
   pub absent : IsTrue tells → IsUnfinished (old.seen (Log number))
-  pub first : IsTrue tells → (m : ℕ) → 1 ≤ m → m < number → IsUnfinished (old.seen (Log m)) → ⊥
+  pub first : IsTrue tells → (m : ℕ) → 1 ≤ m → m < number → IsFinished m old.seen
   pub touched : HasTouched tells file old new
+
+-- a log that was finished isn't the one
+pub next_log_other : (tells : Bool) (file : JournalFile) (old new : JournalTold)
+    → HasTouchedNextLog tells file old new → IsTrue tells → (n : ℕ) → IsFinished n old.seen
+    → Log n ≢ file
+next_log_other tells file old new next told n finished same =
+    finished (subst (λ (f : JournalFile). IsUnfinished (old.seen f)) (sym (same ∙ next.named))
+    (next.absent told))
 
 -- what tells the same has changed no file
 pub touched_same : (tells : Bool) (file : JournalFile) (a b : JournalTold) → TellsTheSame a b

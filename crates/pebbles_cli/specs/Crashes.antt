@@ -1,15 +1,16 @@
 -- What a run leaves for the next one, whatever crash comes.
 use Rattle.std.specs.Prelude.{◌≡◌, ◌⊎◌, ℕ, ◌≤◌, true, IsTrue, List, Option}
+use Rattle.std.proofs.Common.{inl, inr}
 use Rattle.peb_base.specs.declared.profile.Profile.TheVariants.{Small}
 use Rattle.peb_base.specs.Batches.{Batches}
 use Rattle.disk_model.specs.declared.journal_file.JournalFile.TheVariants.{Log}
 use Rattle.disk_model.specs.Images.{Image}
 use Rattle.disk_model.specs.Told.{JournalTold}
-use Rattle.record_log.specs.Log.{IsUnfinished}
 use Rattle.script.specs.declared.cause.Cause.{Cause}
 use Rattle.flsm_core.specs.Opening.{OpensOn}
 use Rattle.flsm_core.specs.Place.{Start, start_at, all_of}
 use Rattle.flsm_core.specs.Range.{Range, AreIn}
+use Rattle.flsm_core.specs.Touched.{IsFinished}
 use Rattle.pebbles_cli.specs.Outside.{Outside}
 use Rattle.pebbles_cli.specs.Top.{Asked, NotOpened, Ran, Plays}
 
@@ -32,8 +33,8 @@ abbrev pub small_range : Batches → Batches → Range
 small_range least all = record { profile = Small; least = least; all = all }
 
 -- Over a journal whose images all stood for the base: after a run the images of a crash lie in the
--- range from the settled batches to all, and those of any moment since it began in that from the base.
--- So the next run has what its promise asks, whenever this one was stopped.
+-- range from the settled batches to all, and those of any moment since it began in that from the
+-- base. So the next run has what its promise asks, whenever this one was stopped.
 abbrev pub RunsLeaveRanges : Type 1
 RunsLeaveRanges = (asked : Asked) (old new : Outside) (cause : Cause) (base : Batches)
     → IsTrue old.devices.tells → IsTrue new.devices.tells
@@ -47,14 +48,15 @@ RunsLeaveRanges = (asked : Asked) (old new : Outside) (cause : Cause) (base : Ba
 
 -- the file has this content in each image that a crash since the time might have left
 abbrev pub AlwaysHas : JournalTold → ℕ → ℕ → Option (List ℕ) → Type 0
-AlwaysHas told t n content = (image : Image) → told.left_since t image → image (Log n) ≡ content
+AlwaysHas told t n content =
+    (image : Image) → told.left_since t image → image (Log n) ≡ content
 
--- A log that was finished before a run is as it was: reads give the same, and where each image since a
--- time had one content of it, each later one has it.
+-- A log that was finished before a run is as it was: reads give the same, and where each image since
+-- a time had one content of it, each later one has it.
 abbrev pub FinishedLogsStay : Type 1
 FinishedLogsStay = (start : Start) (asked : Asked) (old new : Outside) (cause : Cause)
     → IsTrue old.devices.tells → Ran start asked old new cause
-    → (n : ℕ) → (IsUnfinished (old.devices.journal.seen (Log n)) → ⊥)
+    → (n : ℕ) → IsFinished n old.devices.journal.seen
     → (new.devices.journal.seen (Log n) ≡ old.devices.journal.seen (Log n))
     × ((t : ℕ) (content : Option (List ℕ)) → t ≤ old.devices.journal.moment
     → AlwaysHas old.devices.journal t n content → AlwaysHas new.devices.journal t n content)
