@@ -1,5 +1,5 @@
 -- A run leaves what the next one asks.
-use Rattle.std.proofs.Common.{IsTrue, [], inl, inr, sym, ◌∙◌, subst}
+use Rattle.std.proofs.Common.{IsTrue, [], inl, inr, refl, sym, ◌∙◌, subst}
 use Rattle.std.proofs.lemmas.List.{append-nil}
 use Rattle.peb_base.specs.declared.profile.Profile.TheVariants.{Small}
 use Rattle.peb_base.specs.Batches.{Batches}
@@ -9,7 +9,8 @@ use Rattle.flsm_core.specs.Logs.{Stands}
 use Rattle.flsm_core.specs.Place.{Start, start_at, all_of}
 use Rattle.flsm_core.specs.Standing.{Leaves}
 use Rattle.flsm_core.specs.Touched.{next_log_other}
-use Rattle.pebbles_cli.specs.Crashes.{RunsLeaveRanges, FinishedLogsStay}
+use Rattle.pebbles_cli.specs.Crashes.{LeavesRanges, FinishedLogsStay}
+use Rattle.pebbles_cli.specs.Outside.{Outside}
 use Rattle.pebbles_cli.specs.Top.{Ran}
 
 -- what stands for the base has first batches of the base, all of them
@@ -21,16 +22,16 @@ of_base base image stands = record {
   stands = stands;
 }
 
-pub runs_leave_ranges : RunsLeaveRanges
-runs_leave_ranges asked old new cause base told tells opens (inl refused) = (
+pub leaves_ranges : {old new : Outside} → LeavesRanges old new
+leaves_ranges {old} {new} asked cause base told tells opens (inl refused) = (
   λ image left. of_base base image (refused.now told base opens image left),
   λ image left. of_base base image (refused.ever told base opens image left),
 )
-runs_leave_ranges asked old new cause base told tells opens (inr ran) =
+leaves_ranges {old} {new} asked cause base told tells opens (inr ran) =
     let left = ran.closing.left tells in
     let place = ran.closed.place in
     let honest : IsTrue place.start.honest =
-        subst (λ (s : Start). IsTrue s.honest) (sym ran.starts) tt in (
+        subst (λ (s : Start). IsTrue s.honest) (sym ran.starts) refl in (
       λ image here.
           subst (λ (s : Start). Leaves s.profile place.settled (all_of place) image) ran.starts
               (left.now honest image here),
@@ -41,8 +42,8 @@ runs_leave_ranges asked old new cause base told tells opens (inr ran) =
               (sym ran.starts) here)),
     )
 
-pub finished_logs_stay : FinishedLogsStay
-finished_logs_stay start asked old new cause told ran n finished =
+pub finished_logs_stay : {old new : Outside} → FinishedLogsStay old new
+finished_logs_stay {old} {new} start asked cause told ran n finished =
     let next = ran.touched.1 in
     let other = next_log_other old.devices.tells ran.touched.0 old.devices.journal
         new.devices.journal next told n finished in (

@@ -17,13 +17,13 @@ use Rattle.pebbles_cli.specs.Top.{Asked, NotOpened, Ran, Plays}
 -- ---- the next run's premise
 
 -- all batches that may be there once this was played: where no store was opened, the base
-pub all_after : {start : Start} {asked : Asked} {old new : Outside} {cause : Cause}
+abbrev pub all_after : {start : Start} {asked : Asked} {old new : Outside} {cause : Cause}
     → Plays start asked old new cause → Batches
 all_after {start = start} (inl not_opened) = start.base
 all_after (inr ran) = all_of ran.closed.place
 
 -- those that must be there: where no store was opened, the base, and else the settled ones
-pub least_after : {start : Start} {asked : Asked} {old new : Outside} {cause : Cause}
+abbrev pub least_after : {start : Start} {asked : Asked} {old new : Outside} {cause : Cause}
     → Plays start asked old new cause → Batches
 least_after {start = start} (inl not_opened) = start.base
 least_after (inr ran) = ran.closed.place.settled
@@ -35,8 +35,8 @@ small_range least all = record { profile = Small; least = least; all = all }
 -- Over a journal whose images all stood for the base: after a run the images of a crash lie in the
 -- range from the settled batches to all, and those of any moment since it began in that from the
 -- base. So the next run has what its promise asks, whenever this one was stopped.
-abbrev pub RunsLeaveRanges : Type 1
-RunsLeaveRanges = (asked : Asked) (old new : Outside) (cause : Cause) (base : Batches)
+abbrev pub LeavesRanges : Outside → Outside → Type 0
+LeavesRanges old new = (asked : Asked) (cause : Cause) (base : Batches)
     → IsTrue old.devices.tells → IsTrue new.devices.tells
     → OpensOn Small true base old.devices.journal.seen old.devices.journal.may_leave
     → (plays : Plays (start_at old.devices.journal Small true base) asked old new cause)
@@ -53,8 +53,8 @@ AlwaysHas told t n content =
 
 -- A log that was finished before a run is as it was: reads give the same, and where each image since
 -- a time had one content of it, each later one has it.
-abbrev pub FinishedLogsStay : Type 1
-FinishedLogsStay = (start : Start) (asked : Asked) (old new : Outside) (cause : Cause)
+abbrev pub FinishedLogsStay : Outside → Outside → Type 0
+FinishedLogsStay old new = (start : Start) (asked : Asked) (cause : Cause)
     → IsTrue old.devices.tells → Ran start asked old new cause
     → (n : ℕ) → IsFinished n old.devices.journal.seen
     → (new.devices.journal.seen (Log n) ≡ old.devices.journal.seen (Log n))

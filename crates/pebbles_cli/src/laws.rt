@@ -1,8 +1,11 @@
 //! Laws of what a run tells. Each function runs nothing; its contract is the law.
 
-ghost use Rattle.pebbles_cli.specs.Crashes.{FinishedLogsStay, RunsLeaveRanges};
+ghost use Rattle.pebbles_cli.specs.Crashes.{FinishedLogsStay, LeavesRanges};
 ghost use Rattle.pebbles_cli.specs.Numbers.{RunsNumber};
+ghost use Rattle.pebbles_cli.specs.Outside.{outside};
 ghost use Rattle.pebbles_cli.specs.Shows.{RunsShow, StoppedStays};
+
+use disk_model::{Devices, Sinks};
 
 /// Each value that a run reads is that of its key in the map of all batches of the run, at the
 /// number of the reply; the batch of each number that it prints is among them, and where it is
@@ -26,11 +29,18 @@ pub fn law_stopped()
 /// Over a journal whose images all stood for one list of batches, a run leaves what the next run's
 /// promise asks: images from the settled batches to all, and, whenever it is stopped, from those that
 /// were opened to all.
-pub fn law_next_run()
-    ensures { RunsLeaveRanges }
+pub fn law_next_run<D: Devices, K: Sinks>(devices: &D, sinks: &K, later: &D, later_sinks: &K)
+    ensures { LeavesRanges (outside D.J.Journal D.Devices K.Sinks devices.now sinks.now)
+        (outside D.J.Journal D.Devices K.Sinks later.now later_sinks.now) }
 {}
 
 /// A log that was finished before a run is as it was, also in each image of a crash within the run.
-pub fn law_finished_logs()
-    ensures { FinishedLogsStay }
+pub fn law_finished_logs<D: Devices, K: Sinks>(
+    devices: &D,
+    sinks: &K,
+    later: &D,
+    later_sinks: &K,
+)
+    ensures { FinishedLogsStay (outside D.J.Journal D.Devices K.Sinks devices.now sinks.now)
+        (outside D.J.Journal D.Devices K.Sinks later.now later_sinks.now) }
 {}

@@ -2,4 +2,4 @@ use Rattle.pebbles_cli.proofs.Crashing.{finished_logs_stay}
 use Rattle.pebbles_cli.proofs.laws.law_finished_logs.Goals as goal
 
 pub returns : goal.returns
-returns c = finished_logs_stay
+returns g c = finished_logs_stay
