@@ -4,3 +4,4 @@ pub mod Items
 pub mod Lengths
 pub mod Puts
 pub mod SoFar
+pub mod Whole

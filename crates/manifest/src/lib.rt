@@ -2,9 +2,10 @@
 //! a group.
 //!
 //! The layer above may use `Manifest`, `Replayed`, `write_edit`, `read_edit`, their faults, and the
-//! law that bytes spell one edit at most. It speaks of an edit's bytes by the words of
-//! `specs/Edits` and `specs/Fields`, and of the file by those of `specs/Manifests`. It may not know
-//! how fields are read and written, nor how many writes an append makes.
+//! laws that bytes spell one edit at most, and a file one list of them. It speaks of an edit's
+//! bytes by the words of `specs/Edits` and `specs/Fields`, and of the file by those of
+//! `specs/Manifests`. It may not know how fields are read and written, nor how many writes an
+//! append makes.
 #![tactic(auto)]
 
 mod append_fault;
@@ -24,6 +25,6 @@ mod tests;
 pub use append_fault::AppendFault;
 pub use edit_fault::EditFault;
 pub use edit_record::{read_edit, write_edit};
-pub use laws::one_edit;
+pub use laws::{one_edit, one_manifest};
 pub use manifest_file::Manifest;
 pub use replayed::Replayed;
