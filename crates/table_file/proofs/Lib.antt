@@ -7,6 +7,8 @@ pub mod Lengths
 pub mod Openings
 pub mod Parting
 pub mod PieceLaws
+pub mod PieceLengths
+pub mod PiecePushes
 pub mod PieceSteps
 pub mod Ranges
 pub mod Placing

@@ -15,8 +15,8 @@ use Rattle.table_file.specs.Writing.{block_length, HasPushed}
 use Rattle.table_file.specs.declared.put_fault.PutFault.{PutFault}
 use Rattle.table_file.specs.declared.table_writer.TableWriter.{TableWriter}
 
--- what is kept: the writer of tables, their level, the first number and the last entry's range of the
--- input, whether a table is open, and the tables that were closed
+-- what is kept: the writer of tables, their level, the first number and the last entry's range of
+-- the input, whether a table is open, and the tables that were closed
 pub record PieceParts (F : Type 0) : Type 0 where
   pub writer : TableWriter
   pub level : ℕ
@@ -68,8 +68,8 @@ pub record Writes {F : Type 0} (m : Making) (w : PieceParts F) (p : Piece) : Typ
   pub number : w.writer.number ≡ p.number
   pub level : w.writer.level ≡ w.level
 
--- entries were pushed of an input with this first number: the last piece is that of the last entry's range,
--- so many ranges behind the first, and the others are closed
+-- entries were pushed of an input with this first number: the last piece is that of the last
+-- entry's range, so many ranges behind the first, and the others are closed
 pub record IsOpenAt (n at : ℕ) (keys : List Bytes) (s : Pushed) : Type 0 where
   pub closed : List Piece
   pub front : List Entry
@@ -112,8 +112,8 @@ with_more s e = record { earlier = s.earlier; entries = s.entries ++ e ∷ [] }
 abbrev pub next_input : ℕ → List Bytes → Pushed → Pushed
 next_input n keys s = record { earlier = all_pieces n keys s; entries = [] }
 
--- how many bytes the maker took of it: the tables of all pieces but the last, and the closed blocks of
--- the last one's
+-- how many bytes the maker took of it: the tables of all pieces but the last, and the closed blocks
+-- of the last one's
 abbrev pub taken_by : {F : Type 0} → PieceParts F → List Bytes → Pushed → ℕ
 taken_by w keys s = whole_length (full_length w) s.earlier
     + open_length (full_length w) (pieces_from w.numbers keys s.entries)
@@ -127,8 +127,8 @@ left_of w keys s = whole_length (full_length w) (pieces_from w.numbers keys s.en
 abbrev pub open_entries : {F : Type 0} → PieceParts F → List Bytes → Pushed → List Entry
 open_entries w keys s = last_piece (pieces_from w.numbers keys s.entries)
 
--- the limit that stops an entry: that of its piece's table, or, where it begins another piece, that of the
--- table that is closed before it
+-- the limit that stops an entry: that of its piece's table, or, where it begins another piece, that
+-- of the table that is closed before it
 abbrev pub piece_fault : {F : Type 0} → PieceParts F → List Bytes → Pushed → Entry → Option PutFault
 piece_fault w keys s e =
     if range_of (last_key s.entries) keys == range_of e.key keys

@@ -17,8 +17,8 @@ abbrev pub some_piece : ℕ → List Entry → List Piece
 some_piece n [] = []
 some_piece n (e ∷ es) = record { number = n; entries = e ∷ es } ∷ []
 
--- the entries between neighbouring keys, of each range that has any, numbered from a first number on by the
--- range, where those without entries count too
+-- the entries between neighbouring keys, of each range that has any, numbered from a first number
+-- on by the range, where those without entries count too
 abbrev pub pieces_from : ℕ → List Bytes → List Entry → List Piece
 pieces_from n [] es = some_piece n es
 pieces_from n (k ∷ ks) es =

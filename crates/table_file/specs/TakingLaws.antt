@@ -14,7 +14,11 @@ takes_none most before fits =
 pub takes_less : (less most before now : ℕ) → less ≤ most → TakesAtMost less before now
     → TakesAtMost most before now
 takes_less less most before now le takes =
-    record { count = takes.count; within = omega (arith, takes.within, le); counted = takes.counted }
+    record {
+      count = takes.count;
+      within = omega (arith, takes.within, le);
+      counted = takes.counted;
+    }
 
 -- first so many bytes, then at most so many
 pub takes_on : (first most before between now : ℕ) → between ≡ capped (before + first)

@@ -15,6 +15,7 @@ mod index_reading;
 mod item_fields;
 mod laws;
 mod opening;
+mod piece_laws;
 mod piece_writer;
 mod put_fault;
 mod short;
@@ -32,6 +33,7 @@ pub use laws::{
     law_blocks, law_cut, law_held, law_holds, law_length, one_opening, one_place, opens_as_written,
     written_opens,
 };
+pub use piece_laws::law_pieces;
 pub use piece_writer::PieceWriter;
 pub use put_fault::PutFault;
 pub use short::Short;

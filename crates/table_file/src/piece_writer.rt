@@ -36,12 +36,12 @@ fn range_from(keys: &[Key], key: &[u8], from: usize) -> usize
     at
 }
 
-/// Writes entries that come in order into tables: one for each range between neighbouring keys in which an
-/// entry falls, under the number of that range. It is the writer of all jobs.
+/// Writes entries that come in order into tables: one for each range between neighbouring keys in
+/// which an entry falls, under the number of that range. It is the writer of all jobs.
 ///
-/// A job begins each of its inputs with a number, that of the range before the first key, and the ranges
-/// behind take the numbers that follow, those without entries too. So one job makes the same tables
-/// whoever runs it.
+/// A job begins each of its inputs with a number, that of the range before the first key, and the
+/// ranges behind take the numbers that follow, those without entries too. So one job makes the same
+/// tables whoever runs it.
 #[derive(Drop)]
 pub struct PieceWriter<F: TableHandle> {
     alloc: Global,
@@ -91,12 +91,13 @@ impl<F: TableHandle> PieceWriter<F> {
         })
     }
 
-    /// Writes one more entry, which comes after those of its input, into the table of its range. Where the
-    /// range is a later one than the last entry's, the table before is closed first.
+    /// Writes one more entry, which comes after those of its input, into the table of its range.
+    /// Where the range is a later one than the last entry's, the table before is closed first.
     ///
-    /// `Limit` comes exactly where the range's table refuses the entry, or the table before can't be closed.
-    /// `Fault` comes only where the maker's count of faults rose. After an error the writer is good for
-    /// nothing, and the maker has taken some first bytes of what it would have taken, or none.
+    /// `Limit` comes exactly where the range's table refuses the entry, or the table before can't
+    /// be closed. `Fault` comes only where the maker's count of faults rose. After an error the
+    /// writer is good for nothing, and the maker has taken some first bytes of what it would have
+    /// taken, or none.
     pub fn push<M: Maker<File = F>>(
         &mut self,
         maker: &mut M,
@@ -181,8 +182,8 @@ impl<F: TableHandle> PieceWriter<F> {
         ensures limit { (keys : List Bytes) (s : Pushed)
             → HasCut F.TableHandle (making F.tells (M.begun maker.old) (M.written maker.old))
             self.old keys s
-            → IsRefused (blocks_fault (blocks_of (full_length self.old) (open_entries self.old keys s)))
-            result }
+            → IsRefused (blocks_fault (blocks_of (full_length self.old)
+            (open_entries self.old keys s))) result }
         ensures later { M.faults maker.old ≤ M.faults maker.new }
         ensures cause { result ≡ Err Fault → Rose (M.faults maker.old) (M.faults maker.new) }
         // what stays
@@ -199,11 +200,11 @@ impl<F: TableHandle> PieceWriter<F> {
         Ok(())
     }
 
-    /// Closes the table that is open, and gives all tables, in order: those of the pieces of what was
-    /// pushed, each under the number of its range.
+    /// Closes the table that is open, and gives all tables, in order: those of the pieces of what
+    /// was pushed, each under the number of its range.
     ///
-    /// `Limit` comes only where the last table can't be closed, `Fault` only where the maker's count of
-    /// faults rose.
+    /// `Limit` comes only where the last table can't be closed, `Fault` only where the maker's
+    /// count of faults rose.
     pub fn finish<M: Maker<File = F>>(
         mut self,
         maker: &mut M,
@@ -232,7 +233,8 @@ impl<F: TableHandle> PieceWriter<F> {
         ensures limit { (keys : List Bytes) (s : Pushed)
             → HasCut F.TableHandle (making F.tells (M.begun maker.old) (M.written maker.old))
             self keys s
-            → IsRefused (blocks_fault (blocks_of (full_length self) (open_entries self keys s))) result }
+            → IsRefused (blocks_fault (blocks_of (full_length self)
+            (open_entries self keys s))) result }
         ensures later { M.faults maker.old ≤ M.faults maker.new }
         ensures cause { result ≡ Err Fault → Rose (M.faults maker.old) (M.faults maker.new) }
         // what stays
@@ -361,8 +363,8 @@ impl<F: TableHandle> PieceWriter<F> {
         ensures limit { (keys : List Bytes) (s : Pushed)
             → HasCut F.TableHandle (making F.tells (M.begun maker.old) (M.written maker.old))
             self.old keys s
-            → IsRefused (blocks_fault (blocks_of (full_length self.old) (open_entries self.old keys s)))
-            result }
+            → IsRefused (blocks_fault (blocks_of (full_length self.old)
+            (open_entries self.old keys s))) result }
         ensures later { M.faults maker.old ≤ M.faults maker.new }
         ensures cause { result ≡ Err Fault → Rose (M.faults maker.old) (M.faults maker.new) }
         // what stays

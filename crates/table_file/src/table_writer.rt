@@ -34,8 +34,8 @@ const MOST_ENTRIES: u64 = 1_717_986_918;
 
 /// The writer of tables, one after another.
 ///
-/// It keeps the block that is begun, the index, what the row tells, and the hash of each key, since the
-/// filter is built when the number of entries is known.
+/// It keeps the block that is begun, the index, what the row tells, and the hash of each key, since
+/// the filter is built when the number of entries is known.
 #[derive(Drop)]
 pub struct TableWriter {
     alloc: Global,
@@ -274,9 +274,9 @@ impl TableWriter {
     /// maker is as the writer's last call left it. It takes the bytes of the block that the entry
     /// fills, if it fills one, and at an error some first of them or none.
     ///
-    /// `Limit` comes exactly where the table has all the entries that a table may have, or where the entry
-    /// fills a block whose item would make the index too long. `Fault` comes only where the maker's count
-    /// of faults rose. After an error the writer is good for another table alone.
+    /// `Limit` comes exactly where the table has all the entries that a table may have, or where
+    /// the entry fills a block whose item would make the index too long. `Fault` comes only where
+    /// the maker's count of faults rose. After an error the writer is good for another table alone.
     pub fn push<M: Maker>(&mut self, maker: &mut M, entry: EntryRef<'_>) -> Result<(), PutFault>
         requires { (es : List Entry)
             × HasPushed M.File.tells (M.begun maker.old) (M.written maker.old) self.old es

@@ -4,7 +4,7 @@ use Rattle.table_file.specs.Limits.{IsRefused}
 use Rattle.table_file.specs.PieceWriting.{PieceParts, Pushed, full_length, making, HasCut}
 use Rattle.table_file.specs.Taking.{Takes}
 use Rattle.table_file.specs.declared.put_fault.PutFault.{PutFault}
-use Rattle.table_file.proofs.PieceSteps.{all_closed, none_left, none_refused, taken_last, fault_last}
+use Rattle.table_file.proofs.PiecePushes.{all_closed, none_left, none_refused, taken_last, fault_last}
 use Rattle.table_file.proofs.piece_writer.PieceWriter.close_any.Goals as goal
 
 pub returns-then-not-self-clause-tables : goal.returns-then-not-self-clause-tables

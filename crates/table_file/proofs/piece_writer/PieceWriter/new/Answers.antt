@@ -1,6 +1,6 @@
 use Rattle.std.proofs.Common.{◌≡◌, [], map, refl, rules}
 use Rattle.std.specs.Arc.{arc_value}
-use Rattle.table_file.proofs.PieceSteps.{fresh}
+use Rattle.table_file.proofs.PiecePushes.{fresh}
 use Rattle.table_file.proofs.piece_writer.PieceWriter.new.Goals as goal
 
 pub returns-clause-cut : goal.returns-clause-cut
