@@ -12,7 +12,8 @@ use std::sync::Arc;
 
 /// The live tables of a moment: those of level 0, and the guards of each deeper level with theirs.
 ///
-/// It never changes. Versions that are made of one another share the levels in which they don't differ.
+/// It never changes. Versions that are made of one another share the levels in which they don't
+/// differ.
 #[derive(Drop)]
 pub struct Version<T: TableLike> {
     alloc: Global,
@@ -27,16 +28,24 @@ impl<T: TableLike> Model for Version<T> {
 
     ghost Value = { Levels T };
 
-    ghost view = { λ version. record { top = arc_value version.top; levels = map arc_value version.levels.items } };
+    ghost view = { λ version. record {
+      top = arc_value version.top;
+      levels = map arc_value version.levels.items;
+    } };
 
     ghost invariant = { λ version. length version.levels.items < 256 };
 }
 
 impl<T: TableLike + Drop> Version<T> {
-    /// The version of these tables of level 0 and these levels from 1 on, of which there are at most 255.
+    /// The version of these tables of level 0 and these levels from 1 on, of which there are at
+    /// most 255.
     pub fn of_parts(alloc: Global, top: Vec<T>, levels: Vec<Level<T>>) -> Result<Version<T>, Memory>
         requires { vec_len levels < 256 }
-        ensures { IfOk result (λ version. version ≡ record { top = top.items; levels = levels.items }) }
+        ensures { IfOk result (λ version. version ≡ record {
+          top = top.items;
+          levels =
+              levels.items;
+        }) }
     {
         let top = Arc::new(alloc, List::of(top))?;
         let levels = share_levels(alloc, levels)?;
@@ -66,8 +75,8 @@ impl<T: TableLike + Drop> Version<T> {
         &self.levels[level as usize - 1]
     }
 
-    /// Lends the tables of a level in which a key may lie: all of level 0, else those of the key's guard.
-    /// The level is at most the last.
+    /// Lends the tables of a level in which a key may lie: all of level 0, else those of the key's
+    /// guard. The level is at most the last.
     pub fn looks(&self, level: u8, key: &[u8]) -> &[T]
         requires { level ≤ length self.now.levels }
         ensures { result.now ≡ looked_at self.now level key.now }

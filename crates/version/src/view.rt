@@ -6,7 +6,8 @@ use peb_base::{Number, TableLike};
 use std::alloc::Global;
 use std::sync::Arc;
 
-/// What a read or an iterator looks through: the memtables and the tables of a moment. None of them changes.
+/// What a read or an iterator looks through: the memtables and the tables of a moment. None of them
+/// changes.
 #[derive(Drop)]
 pub struct View<T: TableLike> {
     /// Entries above this number aren't seen.

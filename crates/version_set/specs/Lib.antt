@@ -1,2 +1,4 @@
+pub mod Changes
 pub mod Registers
+pub mod Shapes
 pub mod Versions

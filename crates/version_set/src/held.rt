@@ -17,7 +17,8 @@ pub const CLIENTS: u32 = 16;
 /// How many numbers a client may hold at once.
 const MOST: usize = 64;
 
-/// The numbers that clients hold, the last one that was taken first. Each entry has its client and the number.
+/// The numbers that clients hold, the last one that was taken first. Each entry has its client and
+/// the number.
 #[derive(Drop)]
 pub struct Held {
     pairs: Vec<(u32, Number)>,

@@ -1,15 +1,25 @@
 //! Version sets.
 
-ghost use Rattle.std.specs.Prelude.{◌≡◌, ◌≤◌, ◌<◌, ◌∷◌, [], IfOk, IfSome, IfNone};
+ghost use Rattle.std.specs.Prelude.{◌≡◌, ◌≤◌, ◌<◌, ◌∷◌, [], IfOk, IfErr, OnErr, IfSome, IfNone, length, map};
 ghost use Rattle.std.specs.Arc.{arc_value};
+ghost use Rattle.std.specs.List.{AllByRecursion};
+ghost use Rattle.peb_base.specs.Guards.{Ascend};
+ghost use Rattle.peb_base.specs.Profiles.{column};
 ghost use Rattle.flsm_model.specs.Jobs.{floor_of};
 ghost use Rattle.flsm_model.specs.Legal.{holds_of};
 ghost use Rattle.flsm_model.specs.Steps.{held_without};
+ghost use Rattle.flsm_model.specs.Shape.{Shape, empty_shape};
 ghost use Rattle.version_set.specs.Registers.{IsFirstHeld};
+ghost use Rattle.version_set.specs.Shapes.{IsEmptyLevel, HasPlace, HasTables, IsVersionOf};
+ghost use Rattle.version_set.specs.Changes.{CanStage, IsStagedFor};
 
+use crate::building::{levels_of, place_all};
 use crate::held::Held;
+use crate::staged::Staged;
+use crate::staging::next_version;
+use flsm_model::Edit;
 use guard_level::Level;
-use peb_base::{Memory, Number, Options, TableLike};
+use peb_base::{Key, List, Memory, Number, Options, TableLike};
 use std::alloc::Global;
 use std::marker::Model;
 use std::sync::Arc;
@@ -32,7 +42,126 @@ impl<T: TableLike> Model for VersionSet<T> {
     ghost view = { λ set. record { current = arc_value set.current; held = set.held } };
 }
 
+/// So many levels without guards.
+fn no_levels<T: TableLike + Drop>(alloc: Global, count: u8) -> Result<Vec<Level<T>>, Memory>
+    ensures count { IfOk result (λ levels. length levels.items ≡ count) }
+    ensures empty { IfOk result (λ levels. AllByRecursion IsEmptyLevel levels.items) }
+{
+    let mut levels = Vec::new(alloc);
+    for _ in 0..count {
+        levels.push(Level::new(alloc))?;
+    }
+    Ok(levels)
+}
+
 impl<T: TableLike + Drop> VersionSet<T> {
+    /// A set without tables, guards and held numbers, which has the levels of a profile. Room for
+    /// all numbers that clients may hold is taken here.
+    pub fn new(alloc: Global, options: &Options) -> Result<VersionSet<T>, Memory>
+        ensures stands { IfOk result
+            (λ set. IsVersionOf T.HasRow.the_row set.current
+            (empty_shape (column options.now.profile))) }
+        ensures held { IfOk result (λ set. set.held ≡ []) }
+    {
+        let levels = no_levels(alloc, options.last_level)?;
+        let version = Version::of_parts(alloc, Vec::new(alloc), levels)?;
+        Ok(VersionSet {
+            alloc,
+            current: Arc::new(alloc, version)?,
+            held: Held::new(alloc)?,
+        })
+    }
+
+    /// The set with these guards, of level 1 on, and further handles to these tables, in their
+    /// order, and without held numbers.
+    ///
+    /// There are at most 255 levels, the guards of each ascend strictly, and each table has its
+    /// place.
+    pub fn of_parts(
+        alloc: Global,
+        guards: &[List<Key>],
+        tables: &[T],
+    ) -> Result<VersionSet<T>, Memory>
+        requires few { length guards.now < 256 }
+        requires ascend { AllByRecursion (Ascend []) guards.now }
+        requires placed { AllByRecursion (λ t. HasPlace guards.now (T.HasRow.the_row t))
+            tables.now }
+        ensures stands { IfOk result (λ set. HasTables T.HasRow.the_row set.current guards.now
+            (map T.HasRow.the_row tables.now)) }
+        ensures held { IfOk result (λ set. set.held ≡ []) }
+    {
+        let mut top = Vec::new(alloc);
+        let mut levels = levels_of(alloc, guards)?;
+        place_all(&mut top, &mut levels, tables)?;
+        let version = Version::of_parts(alloc, top, levels)?;
+        let current = Arc::new(alloc, version)?;
+        let held = Held::new(alloc)?;
+        Ok(VersionSet {
+            alloc,
+            current,
+            held,
+        })
+    }
+
+    /// Makes the version after an edit, and changes nothing.
+    ///
+    /// The current version stands for a shape that a legal record leaves, the edit fits it, and
+    /// `tables` are its outputs, in order. Want of memory gives the tables back.
+    pub fn stage(&self, edit: &Edit, tables: Vec<T>) -> Result<Staged<T>, (Memory, Vec<T>)>
+        requires { (s : Shape) × CanStage T.HasRow.the_row self.now.current s edit.now
+            tables.items }
+        ensures staged { IfOk result (λ staged. (s : Shape)
+            → CanStage T.HasRow.the_row self.now.current s edit.now tables.items
+            → IsStagedFor T.HasRow.the_row staged.next staged.gone s edit.now) }
+        ensures given { IfOk result (λ staged. staged.given ≡ tables.items) }
+        ensures back { IfErr result (λ fault. fault.1.items ≡ tables.items) }
+    {
+        match next_version(self.alloc, self.version(), edit, tables.as_slice()) {
+            Ok(made) => {
+                let (next, gone) = made;
+                Ok(Staged {
+                    next,
+                    gone,
+                    given: tables,
+                })
+            }
+            Err(memory) => Err((memory, tables)),
+        }
+    }
+
+    /// Takes a staged version in, and gives the tables that its edit takes away. It takes no
+    /// memory.
+    pub fn swap(&mut self, staged: Staged<T>) -> Vec<T>
+        ensures set { self.new ≡ record self.old { current = staged.next } }
+        ensures gone { result.items ≡ staged.gone }
+    {
+        let Staged {
+            next,
+            gone,
+            given: _,
+        } = staged;
+        self.current = next;
+        gone
+    }
+
+    /// Makes an edit, as `stage` and `swap` do, and gives the tables that it takes away. Want of
+    /// memory changes nothing and gives `tables` back.
+    pub fn apply(&mut self, edit: &Edit, tables: Vec<T>) -> Result<Vec<T>, (Memory, Vec<T>)>
+        requires { (s : Shape) × CanStage T.HasRow.the_row self.old.current s edit.now
+            tables.items }
+        ensures staged { IfOk result (λ gone. (s : Shape)
+            → CanStage T.HasRow.the_row self.old.current s edit.now tables.items
+            → IsStagedFor T.HasRow.the_row self.new.current gone.items s edit.now) }
+        ensures held { self.new.held ≡ self.old.held }
+        ensures err { OnErr result (self.new ≡ self.old) }
+        ensures back { IfErr result (λ fault. fault.1.items ≡ tables.items) }
+    {
+        match self.stage(edit, tables) {
+            Ok(staged) => Ok(self.swap(staged)),
+            Err(fault) => Err(fault),
+        }
+    }
+
     /// A further handle to the current version, which shows the same after later edits.
     pub fn current(&self) -> Result<Arc<Version<T>, Global>, Memory>
         ensures { IfOk result (λ version. arc_value version ≡ self.now.current) }
@@ -56,9 +185,11 @@ impl<T: TableLike + Drop> VersionSet<T> {
         self.held.hold(client, number);
     }
 
-    /// Releases a number that the client holds, once, without memory. One that it doesn't hold changes nothing.
+    /// Releases a number that the client holds, once, without memory. One that it doesn't hold
+    /// changes nothing.
     pub fn release(&mut self, client: u32, number: Number)
-        ensures { self.new ≡ record self.old { held = held_without (client, number) self.old.held } }
+        ensures { self.new ≡
+            record self.old { held = held_without (client, number) self.old.held } }
     {
         self.held.release(client, number);
     }
