@@ -6,12 +6,11 @@ use Rattle.peb_base.specs.Batches.{Batches}
 use Rattle.disk_model.specs.declared.journal_file.JournalFile.TheVariants.{Log}
 use Rattle.disk_model.specs.Images.{Image}
 use Rattle.flsm_core.specs.Logs.{Stands}
-use Rattle.flsm_core.specs.Place.{Start, start_at, all_of}
+use Rattle.flsm_core.specs.Place.{Start, all_of}
 use Rattle.flsm_core.specs.Standing.{Leaves}
 use Rattle.flsm_core.specs.Touched.{next_log_other}
 use Rattle.pebbles_cli.specs.Crashes.{LeavesRanges, FinishedLogsStay}
 use Rattle.pebbles_cli.specs.Outside.{Outside}
-use Rattle.pebbles_cli.specs.Top.{Ran}
 
 -- what stands for the base has first batches of the base, all of them
 of_base : (base : Batches) (image : Image) → Stands Small base image → Leaves Small base base image

@@ -1,5 +1,5 @@
 -- What a run leaves for the next one, whatever crash comes.
-use Rattle.std.specs.Prelude.{◌≡◌, ◌⊎◌, ℕ, ◌≤◌, true, IsTrue, List, Option}
+use Rattle.std.specs.Prelude.{◌≡◌, ℕ, ◌≤◌, true, IsTrue, List, Option}
 use Rattle.std.proofs.Common.{inl, inr}
 use Rattle.peb_base.specs.declared.profile.Profile.TheVariants.{Small}
 use Rattle.peb_base.specs.Batches.{Batches}
@@ -12,7 +12,7 @@ use Rattle.flsm_core.specs.Place.{Start, start_at, all_of}
 use Rattle.flsm_core.specs.Range.{Range, AreIn}
 use Rattle.flsm_core.specs.Touched.{IsFinished}
 use Rattle.pebbles_cli.specs.Outside.{Outside}
-use Rattle.pebbles_cli.specs.Top.{Asked, NotOpened, Ran, Plays}
+use Rattle.pebbles_cli.specs.Top.{Asked, Ran, Plays}
 
 -- ---- the next run's premise
 
