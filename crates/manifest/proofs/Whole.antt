@@ -1,12 +1,9 @@
 -- One list of edits for a file.
-use Rattle.std.proofs.Common.{◌≡◌, inl, inr, ℕ, List, [], ◌∷◌, ◌++◌, drop, length, Option, Some, refl, sym, ap, ◌∙◌, subst, arith}
+use Rattle.std.proofs.Common.{◌≡◌, ℕ, List, [], ◌∷◌, ◌++◌, drop, length, refl, sym, ap, arith}
 use Rattle.std.specs.List.{AllByRecursion}
-use Rattle.disk_model.specs.declared.journal_file.JournalFile.TheVariants.{ManifestA}
-use Rattle.peb_base.specs.declared.profile.Profile.{Profile}
 use Rattle.flsm_model.specs.declared.edit.Edit.{Edit}
-use Rattle.record_log.specs.Log.{IsLog}
-use Rattle.manifest.specs.Edits.{edit_bytes, IsEdit}
-use Rattle.manifest.specs.Manifests.{manifest_header, edit_groups, IsNoEditGroup}
+use Rattle.manifest.specs.Edits.{IsEdit}
+use Rattle.manifest.specs.Manifests.{edit_groups, IsNoEditGroup}
 use Rattle.manifest.proofs.EditKinds.{edits_apart}
 
 abbrev first_group : List (List (List ℕ)) → List (List ℕ)

@@ -1,4 +1,4 @@
-use Rattle.std.proofs.Common.{◌≡◌, inl, inr, ap, sym, ◌∙◌, subst}
+use Rattle.std.proofs.Common.{inl, inr, ap, ◌∙◌, subst}
 use Rattle.disk_model.specs.declared.journal_file.JournalFile.TheVariants.{ManifestA}
 use Rattle.record_log.specs.Log.{IsLog}
 use Rattle.manifest.specs.Manifests.{manifest_header, edit_groups}
