@@ -25,6 +25,8 @@ mod table;
 mod table_fault;
 mod table_writer;
 #[cfg(test)]
+mod piece_tests;
+#[cfg(test)]
 mod tests;
 
 pub use finished::Finished;
