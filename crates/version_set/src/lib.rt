@@ -11,6 +11,8 @@ mod changing;
 mod held;
 mod staged;
 mod staging;
+#[cfg(test)]
+mod tests;
 mod version_set;
 
 pub use staged::Staged;
