@@ -30,22 +30,22 @@ leaves_ranges {old} {new} asked cause base told tells opens (inr ran) =
     let left = ran.closing.left tells in
     let place = ran.closed.place in
     let honest : IsTrue place.start.honest =
-        subst (λ (s : Start). IsTrue s.honest) (sym ran.starts) refl in (
+    subst (λ (s : Start). IsTrue s.honest) (sym ran.starts) refl in (
       λ image here.
           subst (λ (s : Start). Leaves s.profile place.settled (all_of place) image) ran.starts
-              (left.now honest image here),
+          (left.now honest image here),
       λ image here.
           subst (λ (s : Start). Leaves s.profile s.base (all_of place) image) ran.starts
-              (left.ever honest image
-              (subst (λ (s : Start). new.devices.journal.left_since s.moment image)
-              (sym ran.starts) here)),
+          (left.ever honest image
+          (subst (λ (s : Start). new.devices.journal.left_since s.moment image)
+          (sym ran.starts) here)),
     )
 
 pub finished_logs_stay : {old new : Outside} → FinishedLogsStay old new
 finished_logs_stay {old} {new} start asked cause told ran n finished =
     let next = ran.touched.1 in
     let other = next_log_other old.devices.tells ran.touched.0 old.devices.journal
-        new.devices.journal next told n finished in (
+    new.devices.journal next told n finished in (
       next.touched.reads (Log n) other,
       λ t content early always image left.
           let before = next.touched.images told t image early left in

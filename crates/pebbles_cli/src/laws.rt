@@ -35,12 +35,7 @@ pub fn law_next_run<D: Devices, K: Sinks>(devices: &D, sinks: &K, later: &D, lat
 {}
 
 /// A log that was finished before a run is as it was, also in each image of a crash within the run.
-pub fn law_finished_logs<D: Devices, K: Sinks>(
-    devices: &D,
-    sinks: &K,
-    later: &D,
-    later_sinks: &K,
-)
+pub fn law_finished_logs<D: Devices, K: Sinks>(devices: &D, sinks: &K, later: &D, later_sinks: &K)
     ensures { FinishedLogsStay (outside D.J.Journal D.Devices K.Sinks devices.now sinks.now)
         (outside D.J.Journal D.Devices K.Sinks later.now later_sinks.now) }
 {}

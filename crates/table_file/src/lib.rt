@@ -16,6 +16,8 @@ mod item_fields;
 mod laws;
 mod opening;
 mod piece_laws;
+#[cfg(test)]
+mod piece_tests;
 mod piece_writer;
 mod put_fault;
 mod short;
@@ -24,8 +26,6 @@ mod summary;
 mod table;
 mod table_fault;
 mod table_writer;
-#[cfg(test)]
-mod piece_tests;
 #[cfg(test)]
 mod tests;
 

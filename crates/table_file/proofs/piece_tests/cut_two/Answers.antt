@@ -39,20 +39,20 @@ push-requires-clause-cut g c = (_, c.in_ok-begin.ensures.cut c.args.keys.now not
 pub push-requires-2-clause-cut : goal.push-requires-2-clause-cut
 push-requires-2-clause-cut g c =
     let begun = c.in_ok-begin.ensures.cut c.args.keys.now nothing
-        (c.in-Ok.ensures.cut _ c.args.keys.now) in
+    (c.in-Ok.ensures.cut _ c.args.keys.now) in
     (_, c.in_ok-push.ensures.cut _ begun a_sorted, ap_sorted)
 
 pub begin-requires-2 : goal.begin-requires-2
 begin-requires-2 g c =
     let begun = c.in_ok-begin.ensures.cut c.args.keys.now nothing
-        (c.in-Ok.ensures.cut _ c.args.keys.now) in
+    (c.in-Ok.ensures.cut _ c.args.keys.now) in
     let a = c.in_ok-push.ensures.cut _ begun a_sorted in
     (c.args.keys.now, _, c.in_ok-push-2.ensures.cut _ a ap_sorted)
 
 pub push-requires-3-clause-cut : goal.push-requires-3-clause-cut
 push-requires-3-clause-cut g c =
     let begun = c.in_ok-begin.ensures.cut c.args.keys.now nothing
-        (c.in-Ok.ensures.cut _ c.args.keys.now) in
+    (c.in-Ok.ensures.cut _ c.args.keys.now) in
     let a = c.in_ok-push.ensures.cut _ begun a_sorted in
     let p = c.in_ok-push-2.ensures.cut _ a ap_sorted in
     (_, c.in_ok-begin-2.ensures.cut c.args.keys.now _ p, b_sorted)
@@ -60,7 +60,7 @@ push-requires-3-clause-cut g c =
 pub push-requires-4-clause-cut : goal.push-requires-4-clause-cut
 push-requires-4-clause-cut g c =
     let begun = c.in_ok-begin.ensures.cut c.args.keys.now nothing
-        (c.in-Ok.ensures.cut _ c.args.keys.now) in
+    (c.in-Ok.ensures.cut _ c.args.keys.now) in
     let a = c.in_ok-push.ensures.cut _ begun a_sorted in
     let p = c.in_ok-push-2.ensures.cut _ a ap_sorted in
     let next = c.in_ok-begin-2.ensures.cut c.args.keys.now _ p in
@@ -69,7 +69,7 @@ push-requires-4-clause-cut g c =
 pub finish-requires : goal.finish-requires
 finish-requires g c =
     let begun = c.in_ok-begin.ensures.cut c.args.keys.now nothing
-        (c.in-Ok.ensures.cut _ c.args.keys.now) in
+    (c.in-Ok.ensures.cut _ c.args.keys.now) in
     let a = c.in_ok-push.ensures.cut _ begun a_sorted in
     let p = c.in_ok-push-2.ensures.cut _ a ap_sorted in
     let next = c.in_ok-begin-2.ensures.cut c.args.keys.now _ p in
