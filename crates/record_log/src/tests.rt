@@ -74,27 +74,6 @@ fn the_log_of_one_put_is_read(rt: HostRuntime) -> Result<(), Fail> {
 }
 
 #[test]
-fn a_log_that_was_read_takes_further_groups(rt: HostRuntime) -> Result<(), Fail> {
-    let alloc = rt.alloc();
-    let devices = MemDevices::new(alloc, Plans::empty(alloc))?;
-    let mut devices = devices.with_file(JournalFile::Log(1), &LOG)?;
-    let mut journal = devices.journal()?;
-    let found = LogFile::resume(alloc, &mut journal, JournalFile::Log(1))?;
-    let (mut log, header, records) = found.ok_or("no log")?;
-    assert_eq!(rt; header, Header::of_log(Profile::Small, 1, 1));
-    assert_eq!(rt; records.len(), 1);
-    assert_eq!(rt; log.tail(), 0);
-    log.add(b"more")?;
-    log.close_group(&mut journal)?;
-    devices.back(journal);
-    let bytes = devices.bytes_of(JournalFile::Log(1)).ok_or("no log")?;
-    let mut want = LOG[..52].to_vec(alloc)?;
-    want.extend_from_slice(&[1, 0, 0, 0, 8, 0, 0, 0, 4, b'm', b'o', b'r', b'e', 0])?;
-    assert_eq!(rt; bytes, want.as_slice());
-    Ok(())
-}
-
-#[test]
 fn damage_is_told_at_the_header_or_at_the_gate(rt: HostRuntime) -> Result<(), Fail> {
     let alloc = rt.alloc();
     for (at, value, want) in [
