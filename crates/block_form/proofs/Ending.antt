@@ -1,5 +1,5 @@
 -- What the entries that were gone over tell.
-use Rattle.std.proofs.Common.{◌≡◌, ℕ, zero, suc, ◌+◌, ◌-◌, ◌<◌, ◌≤◌, ◌∙◌, ◌^◌, List, [], ◌∷◌, ◌++◌, length, Some, refl, sym, ap, subst, arith, length-append}
+use Rattle.std.proofs.Common.{◌≡◌, ℕ, ◌-◌, ◌<◌, ◌∙◌, ◌^◌, List, [], ◌∷◌, ◌++◌, length, Some, refl, sym, ap, arith, length-append}
 use Rattle.std.specs.Prelude.{slice_get, min, max}
 use Rattle.peb_base.specs.Keys.{Bytes}
 use Rattle.peb_base.specs.Entries.{AscendFrom}

@@ -1,15 +1,15 @@
 -- Where the restarts of a block stand, and what their places read as.
-use Rattle.std.proofs.Common.{◌≡◌, ℕ, zero, suc, ◌+◌, ◌-◌, ◌*◌, ◌/◌, ◌%◌, ◌<◌, ◌≤◌, ◌^◌, ◌⊎◌, inl, inr, Bool, true, false, List, [], ◌∷◌, ◌++◌, length, take, drop, refl, sym, ap, ◌∙◌, subst, arith, length-append, length-drop}
+use Rattle.std.proofs.Common.{◌≡◌, ℕ, zero, suc, ◌+◌, ◌-◌, ◌*◌, ◌/◌, ◌%◌, ◌<◌, ◌≤◌, ◌⊎◌, inl, inr, Bool, true, false, List, [], ◌∷◌, ◌++◌, length, take, drop, refl, sym, ap, ◌∙◌, subst, arith, length-append, length-drop}
 use Rattle.std.specs.Prelude.{if◌then◌else◌, ◌==◌, slice_get, Some}
 use Rattle.std.proofs.lemmas.Bool.Decides.{nat_tests}
-use Rattle.std.proofs.lemmas.List.{drop_at, drop-drop, append-nil}
+use Rattle.std.proofs.lemmas.List.{drop_at, drop-drop}
 use Rattle.byteorder.specs.Endian.{big_bytes, big_number}
 use Rattle.byteorder.specs.Numbers.{big_number-reads_back, length-bytes_high_first}
 use Rattle.peb_base.specs.Keys.{Bytes}
 use Rattle.peb_base.specs.declared.entry.Entry.{Entry}
 use Rattle.block_form.specs.Form.{is_restart, parts_at, entry_bytes, entries_bytes, restarts, block_restarts, places_bytes}
 use Rattle.block_form.specs.Spots.{offset_of}
-use Rattle.block_form.specs.Walks.{places_at, Spells, BlockParts, HoldsEntries, entries_from}
+use Rattle.block_form.specs.Walks.{Spells, BlockParts, HoldsEntries, entries_from}
 use Rattle.block_form.proofs.Walks.{entries-one, entries-none, restarts-one, held}
 use Rattle.block_form.proofs.Spots.{entry_is, inside}
 use Rattle.block_form.proofs.Scans.{At, at, FoundFrom}
@@ -104,12 +104,6 @@ placed_by es entries places count spells counts = spells.placed ∙ ap (λ l. pl
 pub parts_short : (bytes entries places : List ℕ) → BlockParts bytes entries places → length entries ≤ 40960
 parts_short bytes entries places parts =
     omega (arith, parts.small, ap length parts.whole, length-append (entries ++ places) parts.tail, length-append entries places)
-
--- what is at a place of a list is inside it
-pub get_inside : (es : List Entry) (place : ℕ) (e : Entry) → slice_get es place ≡ Some e → place < length es
-get_inside [] place e there = cc
-get_inside (x ∷ es) zero e there = omega arith
-get_inside (x ∷ es) (suc place) e there = omega (arith, get_inside es place e there)
 
 -- ---- looking from a restart on
 

@@ -3,7 +3,7 @@ use Rattle.std.proofs.Common.{◌≡◌, ◌≢◌, ℕ, zero, suc, ◌+◌, ◌
 use Rattle.std.proofs.lemmas.Nat.{be_bytes_2, be_bytes_4, be_bytes_8}
 use Rattle.std.proofs.lemmas.List.{get_or-drop, take_at, drop_at}
 use Rattle.byteorder.specs.Endian.{big_bytes, big_number}
-use Rattle.byteorder.specs.Numbers.{big_number-reads_back, big_from-lt}
+use Rattle.byteorder.specs.Numbers.{big_number-reads_back}
 use Rattle.peb_base.specs.declared.change.Change.{Change}
 use Rattle.peb_base.specs.declared.change.Change.TheVariants.{Put, Delete}
 use Rattle.peb_base.specs.Entries.{value_of}

@@ -1,5 +1,5 @@
 -- What the entries of a block that is read for the first time tell besides.
-use Rattle.std.specs.Prelude.{◌≡◌, ℕ, ◌-◌, ◌<◌, List, length, Some, slice_get}
+use Rattle.std.specs.Prelude.{◌≡◌, ◌-◌, ◌<◌, List, length, Some, slice_get}
 use Rattle.peb_base.specs.Keys.{Bytes}
 use Rattle.peb_base.specs.Tables.{least_number, greatest_number}
 use Rattle.peb_base.specs.declared.entry.Entry.{Entry}

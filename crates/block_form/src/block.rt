@@ -6,15 +6,15 @@ ghost use Rattle.peb_base.specs.Entries.{comes_before};
 ghost use Rattle.peb_base.specs.EntryRefs.{entry_of};
 ghost use Rattle.block_form.specs.Ends.{TellsEnds};
 ghost use Rattle.block_form.specs.Form.{IsBlock, block_restarts, places_bytes};
-ghost use Rattle.block_form.specs.Spots.{offset_of};
+ghost use Rattle.block_form.specs.Spots.{offset_of, IsSpot};
 ghost use Rattle.block_form.specs.Walks.{entries_from};
 
 use crate::block_fault::BlockFault;
 use crate::ends::Ends;
 use crate::parts::parts_of_block;
 use crate::reading::ends_of;
-use crate::scan::entry_at;
-use crate::stepped::{peek, restart_at, step};
+use crate::spot::{Spot, entry_at};
+use crate::stepped::{restart_at, step};
 use byteorder::{BigEndian, ByteOrder};
 use peb_base::{EntryRef, KeyBuf, Number, is_before};
 use std::marker::Model;
@@ -124,48 +124,47 @@ impl Block<'_> {
     }
 
     /// Goes to the first entry at or after this key and number, in entry order, or behind the
-    /// last: gives its place and where it begins, and leaves its key. It halves over the
-    /// restarts, and then looks at sixteen entries at most.
-    pub fn seek(&self, key: &[u8], number: Number, key_out: &mut KeyBuf) -> (usize, usize)
+    /// last: gives its place and what is read of it, and leaves its key. It halves over the
+    /// restarts, and then reads sixteen entries at most.
+    pub fn seek(&self, key: &[u8], number: Number, key_out: &mut KeyBuf) -> (usize, Spot)
         ensures place { result.0 ≡ first_from key.now number self.now }
-        ensures at { result.1 ≡ offset_of result.0 self.now }
-        ensures key { (e : Entry) → slice_get self.now result.0 ≡ Some e → key_out.new ≡ e.key }
+        ensures spot { result.0 < length self.now
+            → IsSpot self.now result.0 key_out.new result.1 }
     {
         let above = number.packed();
         let place = self.restart_before(key, above);
-        let at = self.go_to_restart(place, key_out);
-        self.scan(place, at, key, above, key_out)
+        let spot = self.go_to_restart(place, key_out);
+        self.scan(place, spot, key, above, key_out)
     }
 
     /// Goes on to the first entry at or after this key and number, or behind the last, from an entry at
-    /// most sixteen places before it, of which the key is handed in.
+    /// most sixteen places before it.
     fn scan(
         &self,
         start: usize,
-        from: usize,
+        from: Spot,
         key: &[u8],
         number: u64,
         key_out: &mut KeyBuf,
-    ) -> (usize, usize)
+    ) -> (usize, Spot)
         requires place { start < length self.now }
-        requires at { from ≡ offset_of start self.now }
-        requires key { (e : Entry) → slice_get self.now start ≡ Some e → key_out.old ≡ e.key }
+        requires spot { IsSpot self.now start key_out.old from }
         requires near { (start ≤ first_from key.now number self.now)
             × (first_from key.now number self.now ≤ start + 16) }
         ensures place { result.0 ≡ first_from key.now number self.now }
-        ensures at { result.1 ≡ offset_of result.0 self.now }
-        ensures key { (e : Entry) → slice_get self.now result.0 ≡ Some e → key_out.new ≡ e.key }
+        ensures spot { result.0 < length self.now
+            → IsSpot self.now result.0 key_out.new result.1 }
     {
         let mut place = start;
-        let mut at = from;
+        let mut spot = from;
         'scan: while place < self.count {
-            if !self.is_passed(place, at, key_out.bytes(), key, number) {
-                return (place, at);
+            if !is_before(key_out.bytes(), spot.number, key, number) {
+                return (place, spot);
             }
-            at = self.step(place, at, key_out);
+            spot = self.behind(place, spot, key_out);
             place += 1;
         }
-        (place, at)
+        (place, spot)
     }
 
     /// The place of the last restart whose entry comes before this key and number, or of the first restart.
@@ -198,8 +197,8 @@ impl Block<'_> {
         ensures { (e : Entry) → slice_get self.now place ≡ Some e
             → result ≡ comes_before e.key e.number key.now number }
     {
-        let (here, above) = self.restart(place, self.offset_of_restart(place));
-        is_before(here, above, key, number)
+        let (here, spot) = self.restart(place, self.offset_of_restart(place));
+        is_before(here, spot.number, key, number)
     }
 
     /// Where the entry at a restart begins, counted from the first entry.
@@ -212,59 +211,41 @@ impl Block<'_> {
         (BigEndian::read_u32(&self.places[start..]) - 1) as usize
     }
 
-    /// The key and the number of the entry at a restart, which begins here.
-    fn restart(&self, place: usize, at: usize) -> (&[u8], u64)
+    /// The key of the entry at a restart, which begins here, and what is read of it besides.
+    fn restart(&self, place: usize, at: usize) -> (&[u8], Spot)
         requires restart { place % 16 ≡ 0 }
         requires place { place < length self.now }
         requires at { at ≡ offset_of place self.now }
-        ensures entry { (e : Entry) → slice_get self.now place ≡ Some e → (result.0.now ≡ e.key)
-            × (result.1 ≡ e.number) }
+        ensures spot { IsSpot self.now place result.0.now result.1 }
         ensures short { length result.0.now ≤ 1024 }
     {
         let rest = &self.entries[at..];
-        restart_at(rest)
+        let (key, found) = restart_at(rest);
+        let behind = self.entries.len() - found.behind.len();
+        (key, Spot::new(found.number, found.change, behind))
     }
 
-    /// Goes to the entry at a restart: gives where it begins, and leaves its key.
-    fn go_to_restart(&self, place: usize, key: &mut KeyBuf) -> usize
+    /// Goes to the entry at a restart, and leaves its key.
+    fn go_to_restart(&self, place: usize, key: &mut KeyBuf) -> Spot
         requires restart { place % 16 ≡ 0 }
         requires place { place < length self.now }
-        ensures at { result ≡ offset_of place self.now }
-        ensures key { (e : Entry) → slice_get self.now place ≡ Some e → key.new ≡ e.key }
+        ensures { IsSpot self.now place key.new result }
     {
-        let at = self.offset_of_restart(place);
-        let (here, _) = self.restart(place, at);
+        let (here, spot) = self.restart(place, self.offset_of_restart(place));
         key.put(0, here);
-        at
+        spot
     }
 
-    /// Whether the entry at a place, which begins here and of which this is the
-    /// key, comes before another key and number.
-    fn is_passed(&self, place: usize, at: usize, here: &[u8], key: &[u8], number: u64) -> bool
+    /// Goes from the entry at a place to the one behind it, if there is one.
+    fn behind(&self, place: usize, spot: Spot, key: &mut KeyBuf) -> Spot
         requires place { place < length self.now }
-        requires at { at ≡ offset_of place self.now }
-        requires key { (e : Entry) → slice_get self.now place ≡ Some e → here.now ≡ e.key }
-        ensures { (e : Entry) → slice_get self.now place ≡ Some e
-            → result ≡ comes_before e.key e.number key.now number }
+        requires spot { IsSpot self.now place key.old spot }
+        ensures { place + 1 < length self.now → IsSpot self.now (place + 1) key.new result }
     {
-        let rest = &self.entries[at..];
-        is_before(here, peek(rest).number, key, number)
-    }
-
-    /// Goes from the entry at a place, which begins here, to the one behind it, if there is
-    /// one: gives where it begins, and leaves its key.
-    fn step(&self, place: usize, at: usize, key: &mut KeyBuf) -> usize
-        requires place { place < length self.now }
-        requires at { at ≡ offset_of place self.now }
-        requires key { (e : Entry) → slice_get self.now place ≡ Some e → key.old ≡ e.key }
-        ensures at { result ≡ offset_of (place + 1) self.now }
-        ensures key { (e : Entry) → slice_get self.now (place + 1) ≡ Some e → key.new ≡ e.key }
-    {
-        let behind = self.offset_behind(place, at);
-        if place < self.count - 1 {
-            self.key_behind(place, behind, key);
+        if place == self.count - 1 {
+            return spot;
         }
-        behind
+        self.step(place, spot, key)
     }
 
     /// The entry at a place below the number of entries, with its value lent
@@ -273,70 +254,46 @@ impl Block<'_> {
         requires { place < length self.now }
         ensures { slice_get self.now place ≡ Some (entry_of result) }
     {
-        let at = self.go(place, key_out);
-        entry_at(self.entries, self.count, place, at, key_out.bytes())
+        let spot = self.go(place, key_out);
+        entry_at(self.entries, place, spot, key_out.bytes())
     }
 
-    /// Where the entry behind the one at a place begins, which begins here itself;
-    /// both are counted from the first entry.
-    pub fn offset_behind(&self, place: usize, at: usize) -> usize
-        requires place { place < length self.now }
-        requires at { at ≡ offset_of place self.now }
-        ensures { result ≡ offset_of (place + 1) self.now }
-    {
-        let rest = &self.entries[at..];
-        self.entries.len() - peek(rest).behind.len()
-    }
-
-    /// Goes from the key of the entry at a place to that of the entry behind it, which begins here.
-    pub fn key_behind(&self, place: usize, at: usize, key: &mut KeyBuf)
+    /// Goes from the entry at a place to the one behind it, of which it leaves the key. It reads that entry
+    /// alone.
+    pub fn step(&self, place: usize, spot: Spot, key: &mut KeyBuf) -> Spot
         requires place { place + 1 < length self.now }
-        requires at { at ≡ offset_of (place + 1) self.now }
-        requires key { (e : Entry) → slice_get self.now place ≡ Some e → key.old ≡ e.key }
-        ensures { (e : Entry) → slice_get self.now (place + 1) ≡ Some e → key.new ≡ e.key }
+        requires spot { IsSpot self.now place key.old spot }
+        ensures { IsSpot self.now (place + 1) key.new result }
     {
-        let rest = &self.entries[at..];
-        step(key, rest);
+        let rest = &self.entries[spot.behind..];
+        let found = step(key, rest);
+        let behind = self.entries.len() - found.behind.len();
+        Spot::new(found.number, found.change, behind)
     }
 
-    /// Puts the key of the entry at a place below the number of entries together in `key`, and gives where
-    /// the entry begins. It begins at the restart at or before the place.
-    pub fn go(&self, place: usize, key: &mut KeyBuf) -> usize
+    /// Goes to the entry at a place below the number of entries, and leaves its key. It begins at the
+    /// restart at or before the place.
+    pub fn go(&self, place: usize, key: &mut KeyBuf) -> Spot
         requires { place < length self.now }
-        ensures at { result ≡ offset_of place self.now }
-        ensures key { (e : Entry) → slice_get self.now place ≡ Some e → key.new ≡ e.key }
+        ensures { IsSpot self.now place key.new result }
     {
         let start = place - place % 16;
-        let at = self.go_to_restart(start, key);
-        self.walk(start, at, place, key)
+        let spot = self.go_to_restart(start, key);
+        self.walk(start, spot, place, key)
     }
 
-    /// Goes on from an entry, of which the key is handed in, to one at most fifteen places behind it: gives
-    /// where that begins, and leaves its key.
-    fn walk(&self, start: usize, from: usize, place: usize, key: &mut KeyBuf) -> usize
+    /// Goes on from an entry, of which the key is handed in, to one at most fifteen places behind it, and
+    /// leaves the key of that.
+    fn walk(&self, start: usize, from: Spot, place: usize, key: &mut KeyBuf) -> Spot
         requires place { place < length self.now }
         requires near { (start ≤ place) × (place ≤ start + 15) }
-        requires at { from ≡ offset_of start self.now }
-        requires key { (e : Entry) → slice_get self.now start ≡ Some e → key.old ≡ e.key }
-        ensures at { result ≡ offset_of place self.now }
-        ensures key { (e : Entry) → slice_get self.now place ≡ Some e → key.new ≡ e.key }
+        requires spot { IsSpot self.now start key.old from }
+        ensures { IsSpot self.now place key.new result }
     {
-        let mut at = from;
+        let mut spot = from;
         for i in start..place {
-            at = self.step(i, at, key);
+            spot = self.step(i, spot, key);
         }
-        at
-    }
-}
-
-impl<'a> Block<'a> {
-    /// The entry at a place below the number of entries, which begins here and of which this is the key.
-    pub fn entry_here(&self, place: usize, at: usize, key: &'a [u8]) -> EntryRef<'a>
-        requires place { place < length self.now }
-        requires at { at ≡ offset_of place self.now }
-        requires key { (e : Entry) → slice_get self.now place ≡ Some e → key.now ≡ e.key }
-        ensures { slice_get self.now place ≡ Some (entry_of result) }
-    {
-        entry_at(self.entries, self.count, place, at, key)
+        spot
     }
 }

@@ -17,7 +17,7 @@ mod parts;
 mod places;
 mod reading;
 mod room;
-mod scan;
+mod spot;
 mod stepped;
 #[cfg(test)]
 mod tests;
@@ -28,3 +28,4 @@ pub use block_builder::BlockBuilder;
 pub use block_fault::BlockFault;
 pub use ends::Ends;
 pub use laws::{block_grows, block_reads, one_block};
+pub use spot::Spot;

@@ -19,37 +19,25 @@ pub struct Stepped<'a> {
     pub behind: &'a [u8],
 }
 
-/// What the entry at the front, which is known to stand there behind some key, has behind its own key.
-pub fn peek(rest: &[u8]) -> Stepped<'_>
+/// The whole key of the entry at the front, which is known to be a restart, and the entry behind it.
+pub fn restart_at(rest: &[u8]) -> (&[u8], Stepped<'_>)
     requires { (before : Bytes) × BeginsWithEntry before rest.now }
-    ensures { (place : ℕ) (before : Bytes) (e : Entry) (more : List ℕ) → IsEntry e
-        → rest.now ≡ entry_bytes place before e ++ more → (result.number ≡ e.number)
-        × (change_of result.change ≡ e.change) × (result.behind.now ≡ more) }
+    ensures { (place : ℕ) (before : Bytes) (e : Entry) (more : List ℕ) → is_restart place ≡ true
+        → IsEntry e
+        → rest.now ≡ entry_bytes place before e ++ more → (result.0.now ≡ e.key)
+        × (result.1.number ≡ e.number) × (change_of result.1.change ≡ e.change)
+        × (result.1.behind.now ≡ more) }
 {
     let Some(found) = fields_at(rest) else {
         unreachable!();
     };
     let (fields, behind) = found;
-    Stepped {
+    let stepped = Stepped {
         number: fields.number,
         change: fields.change,
         behind,
-    }
-}
-
-/// The whole key and the number of the entry at the front, which is known to be a restart.
-pub fn restart_at(rest: &[u8]) -> (&[u8], u64)
-    requires { (before : Bytes) × BeginsWithEntry before rest.now }
-    ensures { (place : ℕ) (before : Bytes) (e : Entry) (more : List ℕ) → is_restart place ≡ true
-        → IsEntry e
-        → rest.now ≡ entry_bytes place before e ++ more → (result.0.now ≡ e.key)
-        × (result.1 ≡ e.number) }
-{
-    let Some(found) = fields_at(rest) else {
-        unreachable!();
     };
-    let (fields, _) = found;
-    (fields.rest, fields.number)
+    (fields.rest, stepped)
 }
 
 /// Goes over the entry at the front, which is known to stand there, and leaves its key.

@@ -1,5 +1,5 @@
 -- What damage of a block says of reading it.
-use Rattle.std.proofs.Common.{◌≡◌, ℕ, ◌<◌, ◌≤◌, ◌∙◌, List, length, take, drop, sym, ap, subst, arith}
+use Rattle.std.proofs.Common.{◌≡◌, ℕ, ◌<◌, ◌∙◌, List, length, take, drop, sym, ap, subst, arith}
 use Rattle.std.specs.Prelude.{IsTrue}
 use Rattle.block_form.specs.Form.{IsBlock}
 use Rattle.disk_model.specs.declared.table_handle.TableHandle.{Ghosts}

@@ -1,11 +1,9 @@
 -- The newest entry of a key at or below a number is the first one that doesn't come before it, where that has the key.
-use Rattle.std.proofs.Common.{◌≡◌, ℕ, suc, ◌<◌, ◌≤◌, ◌∙◌, inl, inr, Bool, true, false, ◌&&◌, ◌||◌, not, List, [], ◌∷◌, length, Option, Some, None, refl, sym, ap, subst, arith}
-use Rattle.std.specs.Prelude.{slice_get, nat_lt, nat_le, if◌then◌else◌}
-use Rattle.std.specs.List.{find}
+use Rattle.std.proofs.Common.{◌≡◌, ℕ, suc, ◌<◌, ◌≤◌, ◌∙◌, Bool, true, false, ◌&&◌, not, List, [], ◌∷◌, length, Some, None, refl, sym, ap, subst}
+use Rattle.std.specs.Prelude.{slice_get, nat_le, if◌then◌else◌}
 use Rattle.std.proofs.lemmas.Option.{slice_get_past}
-use Rattle.std.proofs.lemmas.Bool.{or_cases, and_parts, leb-true, not-true, true≢false, false_from_ne_true}
-use Rattle.std.proofs.lemmas.Bool.Decides.{nat_tests}
-use Rattle.peb_base.specs.Entries.{comes_before, AscendFrom, AreSorted, first_from}
+use Rattle.std.proofs.lemmas.Bool.{and_parts, leb-true, not-true, true≢false}
+use Rattle.peb_base.specs.Entries.{AreSorted, first_from}
 use Rattle.peb_base.specs.KeyLaws.{same_key, key_self, other_key}
 use Rattle.peb_base.specs.Keys.{Bytes, key_eq}
 use Rattle.peb_base.specs.SortedParts.{find_is, with_key}

@@ -3,8 +3,9 @@ use Rattle.std.proofs.Common.{◌≡◌, ℕ, ◌≤◌, ◌∙◌, IsTrue, List
 use Rattle.std.specs.Prelude.{slice_get}
 use Rattle.peb_base.specs.Keys.{Bytes}
 use Rattle.peb_base.specs.declared.entry.Entry.{Entry}
-use Rattle.block_form.specs.Form.{IsBlock, entries_bytes}
-use Rattle.block_form.specs.Spots.{offset_of}
+use Rattle.block_form.specs.Form.{IsBlock}
+use Rattle.block_form.specs.Spots.{IsSpot}
+use Rattle.block_form.specs.declared.spot.Spot.{Spot}
 use Rattle.block_form.specs.Walks.{entries_from, entries_in}
 use Rattle.disk_model.specs.declared.table_handle.TableHandle.{Ghosts}
 use Rattle.table_file.specs.Tables.{TableParts}
@@ -18,29 +19,22 @@ pub none_in : (bytes : List ℕ) → entries_in 0 bytes ≡ []
 unfolding entries_from
 none_in bytes = refl
 
-pub empty_page : (len place here : ℕ) (buffer : List ℕ) (key : Bytes) → len ≤ 40960 → IsPage len 0 place here buffer key (entries_in 0 (take len buffer))
+pub empty_page : (len place : ℕ) (here : Spot) (buffer : List ℕ) (key : Bytes) → len ≤ 40960 → IsPage len 0 place here buffer key (entries_in 0 (take len buffer))
 empty_page len place here buffer key fits =
     record {
       fits = fits;
       count_is = sym (ap length (none_in (take len buffer)));
       block = λ some. absurd (omega (arith, some));
       inside = λ some. absurd (omega (arith, some));
-      key_is = λ some. absurd (omega (arith, some));
-      here_is = λ some. absurd (omega (arith, some));
+      spot = λ some. absurd (omega (arith, some));
     }
 
--- the first entry begins where the entries begin
-pub first_offset : (es : List Entry) → offset_of 0 es ≡ 0
-unfolding entries_bytes
-first_offset es = refl
-
 -- a page on which a block was read, at its first entry
-pub full_page : (len count : ℕ) (buffer : List ℕ) (key : Bytes) (es : List Entry) → len ≤ 40960 → IsBlock es (take len buffer) → length es ≡ count → entries_in count (take len buffer) ≡ es
-    → ((e : Entry) → slice_get es 0 ≡ Some e → key ≡ e.key) → IsPage len count 0 0 buffer key (entries_in count (take len buffer))
-unfolding entries_bytes
-full_page len count buffer key es fits form counted same first =
-    subst (λ (l : List Entry). IsPage len count 0 0 buffer key l) (sym same)
-    (record { fits = fits; count_is = sym counted; block = λ some. form; inside = λ some. some; key_is = λ some. first; here_is = λ some. refl })
+pub full_page : (len count : ℕ) (here : Spot) (buffer : List ℕ) (key : Bytes) (es : List Entry) → len ≤ 40960 → IsBlock es (take len buffer) → length es ≡ count → entries_in count (take len buffer) ≡ es
+    → IsSpot es 0 key here → IsPage len count 0 here buffer key (entries_in count (take len buffer))
+full_page len count here buffer key es fits form counted same first =
+    subst (λ (l : List Entry). IsPage len count 0 here buffer key l) (sym same)
+    (record { fits = fits; count_is = sym counted; block = λ some. form; inside = λ some. some; spot = λ some. first })
 
 -- what was read into a buffer, by the item at the index
 pub record KnownBlock {F : Type 0} (g : Ghosts F) (t : TableParts F) (index : ℕ) (item : IndexItem) (count : ℕ) (buffer : List ℕ) : Type 0 where

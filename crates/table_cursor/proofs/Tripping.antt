@@ -1,6 +1,6 @@
 -- Walks from the first entry to the end.
 use Rattle.std.proofs.Common.{◌≡◌, ℕ, zero, suc, ◌<◌, ◌≤◌, ◌∙◌, ◌+◌, inl, inr, List, [], ◌∷◌, ◌++◌, length, take, drop, get_or, append_assoc, subst, Option, Some, None, Result, Err, Bool, true, false, refl, sym, ap, arith}
-use Rattle.std.specs.Prelude.{slice_get, nat_lt, if◌then◌else◌, IfErr, Ok, ◌⊎◌}
+use Rattle.std.specs.Prelude.{slice_get, nat_lt, if◌then◌else◌, IfErr, Ok}
 use Rattle.std.proofs.lemmas.Bool.Decides.{nat_tests}
 use Rattle.std.proofs.Math.Seq.{split_at}
 use Rattle.disk_model.specs.declared.table_handle.TableHandle.{Ghosts}

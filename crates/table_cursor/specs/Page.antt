@@ -1,9 +1,10 @@
 -- What is read on a page.
-use Rattle.std.specs.Prelude.{◌≡◌, ℕ, ◌<◌, ◌≤◌, List, length, take, Some, slice_get}
+use Rattle.std.specs.Prelude.{◌≡◌, ℕ, ◌<◌, ◌≤◌, List, length, take}
 use Rattle.peb_base.specs.Keys.{Bytes}
 use Rattle.peb_base.specs.declared.entry.Entry.{Entry}
 use Rattle.block_form.specs.Form.{IsBlock}
-use Rattle.block_form.specs.Spots.{offset_of}
+use Rattle.block_form.specs.Spots.{IsSpot}
+use Rattle.block_form.specs.declared.spot.Spot.{Spot}
 use Rattle.block_form.specs.Walks.{entries_in}
 
 -- where a block begins in its file, its bytes, its entries, and a place among
@@ -25,13 +26,12 @@ reading at len count place buffer =
           place;
     }
 
--- what is kept of a page: where it has entries they are those of its block, its place is one of theirs,
--- and the key there and where the entry begins are kept
-pub record IsPage (len count place here : ℕ) (buffer : List ℕ) (key : Bytes)
+-- what is kept of a page: where it has entries they are those of its block, and the key and the spot
+-- are those of the entry at its place
+pub record IsPage (len count place : ℕ) (here : Spot) (buffer : List ℕ) (key : Bytes)
     (entries : List Entry) : Type 0 where
   pub fits : len ≤ 40960
   pub count_is : count ≡ length entries
   pub block : 0 < count → IsBlock entries (take len buffer)
   pub inside : 0 < count → place < count
-  pub key_is : 0 < count → (e : Entry) → slice_get entries place ≡ Some e → key ≡ e.key
-  pub here_is : 0 < count → here ≡ offset_of place entries
+  pub spot : 0 < count → IsSpot entries place key here

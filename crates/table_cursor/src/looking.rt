@@ -34,11 +34,11 @@ pub fn look_in<'k>(
 {
     one_block();
     let block = Block::again(bytes, count);
-    let (place, at) = block.seek(key, number, key_out);
+    let (place, spot) = block.seek(key, number, key_out);
     if place >= block.len() {
         return None;
     }
-    let entry = block.entry_here(place, at, key_out.bytes());
+    let entry = spot.entry(place, bytes, key_out.bytes());
     if entry.key != key {
         return None;
     }

@@ -12,10 +12,10 @@ ghost use Rattle.peb_base.specs.declared.read_fault.ReadFault.TheVariants as fau
 ghost use Rattle.table_cursor.specs.Agreeing.{IsDamageAt};
 
 use crate::fetching::fetch;
-use block_form::{Block, block_reads, one_block};
+use block_form::{Block, Spot, block_reads, one_block};
 use block_pool::Loan;
 use disk_model::Port;
-use peb_base::{EntryRef, KeyBuf, Number, ReadFault};
+use peb_base::{ChangeRef, EntryRef, KeyBuf, Number, ReadFault};
 use std::marker::Model;
 use table_file::Table;
 
@@ -27,8 +27,8 @@ pub struct Page {
     len: usize,
     count: usize,
     place: usize,
-    /// Where the entry at the place begins, counted from the first entry.
-    here: usize,
+    /// What was read of the entry at the place besides its key.
+    here: Spot,
     key: KeyBuf,
 }
 
@@ -70,7 +70,7 @@ impl Page {
             len: 0,
             count: 0,
             place: 0,
-            here: 0,
+            here: Spot::new(0, ChangeRef::Delete, 0),
             key: KeyBuf::new(),
         }
     }
@@ -159,7 +159,7 @@ impl Page {
         self.count = 0;
     }
 
-    /// Goes to another place; to the next one by reading the entry here and that one alone.
+    /// Goes to another place; to the next one by reading the entry there alone.
     pub fn go(&mut self, place: usize)
         requires { place < length self.old.entries }
         ensures { self.new ≡ record self.old { place = place } }
@@ -177,9 +177,7 @@ impl Page {
         ensures { self.new ≡ record self.old { place = self.old.place + 1 } }
     {
         let block = block_in(&self.loan, self.len, self.count);
-        let here = block.offset_behind(self.place, self.here);
-        block.key_behind(self.place, here, &mut self.key);
-        self.here = here;
+        self.here = block.step(self.place, self.here, &mut self.key);
         self.place += 1;
     }
 
@@ -205,13 +203,13 @@ impl Page {
         self.here = here;
     }
 
-    /// The entry at the place.
+    /// The entry at the place. It reads no byte of the block.
     pub fn entry(&self) -> EntryRef<'_>
         requires { 0 < length self.now.entries }
         ensures there { slice_get self.now.entries self.now.place ≡ Some (entry_of result) }
         ensures form { IsBlock self.now.entries self.now.bytes }
     {
-        let block = block_in(&self.loan, self.len, self.count);
-        block.entry_here(self.place, self.here, self.key.bytes())
+        let block = &self.loan.bytes()[..self.len];
+        self.here.entry(self.place, block, self.key.bytes())
     }
 }

@@ -9,6 +9,7 @@ ghost use Rattle.peb_base.specs.Cursors.{LeadsTo, IfDamage};
 ghost use Rattle.peb_base.specs.Entries.{AreSorted, comes_before, first_from};
 ghost use Rattle.peb_base.specs.declared.entry.Entry.{Entry};
 ghost use Rattle.peb_base.specs.declared.read_fault.ReadFault.TheVariants as faults;
+ghost use Rattle.block_form.specs.Form.{IsBlock};
 ghost use Rattle.table_file.specs.Form.{blocks_of};
 ghost use Rattle.table_file.specs.Items.{index_for};
 ghost use Rattle.disk_model.specs.Ports.{ReadsAtMost};
@@ -182,6 +183,29 @@ impl<P: Port> TableCursor<P> {
         Step::Last(self.table.blocks() - 1)
     }
 
+    /// Has the block at an index on the page, at its first entry. It makes no read where that block is
+    /// there already.
+    fn turn_to(&mut self, index: usize) -> Result<(), ReadFault>
+        requires { index < length (arc_value self.old.table).items }
+        ensures shows { OnOk result
+            (ShowsOf P.File.TableHandle (arc_value self.old.table) index self.new.page) }
+        ensures form { OnOk result (IsBlock self.new.page.entries self.new.page.bytes) }
+        ensures first { OnOk result (self.new.page.place ≡ 0) }
+        ensures index { self.new.index ≡ index }
+        ensures unread { index ≡ self.old.index → 0 < length self.old.page.entries
+            → IsOk result × (self.new.port ≡ self.old.port) }
+        ensures damage { IfDamage result
+            (IsDamageAt P.File.TableHandle (arc_value self.old.table) index) }
+        ensures turns { Turns self.old self.new result }
+    {
+        if index == self.index && !self.page.is_empty() {
+            self.page.go(0);
+            return Ok(());
+        }
+        self.index = index;
+        self.page.turn(&self.table, &mut self.port, index)
+    }
+
     /// Shows the first entry of the block at an index, or nothing where there is none.
     fn show(&mut self, index: usize) -> Result<(), ReadFault>
         ensures leads { (es : List Entry)
@@ -193,18 +217,20 @@ impl<P: Port> TableCursor<P> {
         ensures lands { OnOk result
             (spot self.new.index self.new.page
             ≡ first_spot (arc_value self.old.table).items index) }
+        ensures unread { index ≡ self.old.index → 0 < length self.old.page.entries
+            → IsOk result × (self.new.port ≡ self.old.port) }
         ensures damage { IfDamage result
             (IsDamageAt P.File.TableHandle (arc_value self.old.table) index) }
         ensures turns { Turns self.old self.new result }
     {
         law_blocks();
         one_block();
-        self.index = index;
         if index >= self.table.blocks() {
+            self.index = index;
             self.page.clear();
             return Ok(());
         }
-        self.page.turn(&self.table, &mut self.port, index)
+        self.turn_to(index)
     }
 
     /// Shows the last entry of the block at an index, or nothing where there is none.
@@ -279,6 +305,8 @@ impl<P: Port> TableCursor<P> {
         ensures lands { OnOk result
             (spot self.new.index self.new.page
             ≡ found_spot (arc_value self.old.table).items key.now number self.new.page) }
+        ensures unread { index_for key.now number (arc_value self.old.table).items ≡ self.old.index
+            → 0 < length self.old.page.entries → IsOk result × (self.new.port ≡ self.old.port) }
         ensures damage { IfDamage result (IsDamageAt P.File.TableHandle (arc_value self.old.table)
             (index_for key.now number (arc_value self.old.table).items)) }
         ensures turns { Turns self.old self.new result }
@@ -364,7 +392,7 @@ impl<P: Port> Cursor for TableCursor<P> {
     ghost kept_size = { λ a b x i. most_steps (length (arc_value (x.table i)).items) };
 
     /// Goes to the first entry at or behind this key and number, or to no place where
-    /// all come before, with one read at most.
+    /// all come before, with one read at most, and with none in the block at which it stands.
     ///
     /// `Damaged` comes only where no bytes of a block that agrees with the table's index
     /// and row stand at the place that it tells.
@@ -379,6 +407,9 @@ impl<P: Port> Cursor for TableCursor<P> {
             (spot_of self.new
             ≡ found_spot (table_of self.old).items key.now number (page_of self.new)) }
         // what it leaves
+        ensures unread { index_for key.now number (table_of self.old).items ≡ index_of self.old
+            → 0 < length (page_of self.old).entries
+            → IsOk result × (port_of self.new ≡ port_of self.old) }
         ensures moves { Moves self.old self.new
             (index_for key.now number (table_of self.old).items) result }
     {

@@ -1,7 +1,7 @@
-use Rattle.std.proofs.Common.{◌≡◌, ◌≤◌, ◌∙◌, ℕ, List, Option, Some, None, refl, sym, subst}
+use Rattle.std.proofs.Common.{◌≡◌, ◌≤◌, ◌∙◌, ℕ, List, Some, refl, sym, subst}
 use Rattle.table_file.specs.Form.{table_bytes}
 use Rattle.table_file.specs.Damages.{IsPlaceByRow}
-use Rattle.table_cursor.specs.Trips.{TellsDamage, TellsOf, LimitsTrip, IsRowWritten}
+use Rattle.table_cursor.specs.Trips.{TellsDamage, TellsOf, LimitsTrip}
 use Rattle.table_cursor.proofs.Tripping.{opened_over, damage_opening, short_index, same_bytes, opening_unlimited, opening_told, place_within, damage_within, none_told, gone_or_there}
 use Rattle.table_cursor.proofs.trips.walk_row.Goals as goal
 

@@ -1,6 +1,5 @@
-use Rattle.std.proofs.Common.{◌≡◌, ◌+◌, ◌*◌, ◌<◌, ◌≤◌, ◌⊎◌, inl, List, Some, length, true, false, subst, sym, ap, arith, ◌∙◌}
+use Rattle.std.proofs.Common.{◌≡◌, ◌+◌, ◌*◌, ◌<◌, inl, List, length, subst, ap, arith, ◌∙◌}
 use Rattle.std.specs.Prelude.{slice_get}
-use Rattle.peb_base.specs.Entries.{comes_before, first_from}
 use Rattle.peb_base.specs.declared.entry.Entry.{Entry}
 use Rattle.block_form.specs.Walks.{HoldsEntries}
 use Rattle.block_form.proofs.Restarts.{found_start, no_later, got_inside}

@@ -1,4 +1,4 @@
-use Rattle.std.proofs.Common.{◌≡◌, ◌⊎◌, ◌+◌, ◌-◌, ◌*◌, ◌<◌, ◌≤◌, Some, length, true, false}
+use Rattle.std.proofs.Common.{◌≡◌, ◌⊎◌, ◌+◌, ◌-◌, ◌*◌, ◌<◌, Some, length, true, false}
 use Rattle.std.specs.Prelude.{slice_get}
 use Rattle.peb_base.specs.Entries.{comes_before}
 use Rattle.peb_base.specs.declared.entry.Entry.{Entry}

@@ -1,5 +1,4 @@
 use Rattle.std.proofs.Common.{◌≡◌, ◌∙◌, List, length, take, drop, sym, ap, subst, arith}
-use Rattle.std.specs.Prelude.{slice_get}
 use Rattle.peb_base.specs.declared.entry.Entry.{Entry}
 use Rattle.block_form.specs.Form.{IsBlock, block_bytes}
 use Rattle.block_form.specs.Walks.{entries_in}
@@ -7,8 +6,8 @@ use Rattle.table_file.specs.Form.{item_of}
 use Rattle.table_file.specs.declared.index_item.IndexItem.{IndexItem}
 use Rattle.table_cursor.specs.Agreeing.{Agrees}
 use Rattle.table_cursor.specs.IndexLaws.{item_is}
-use Rattle.table_cursor.proofs.Pages.{none_in, empty_page, full_page, known_block, first_offset}
-use Rattle.table_cursor.specs.Page.{IsPage}
+use Rattle.table_cursor.proofs.Pages.{none_in, empty_page, full_page, known_block}
+use Rattle.block_form.specs.Spots.{IsSpot}
 use Rattle.table_cursor.proofs.page.Page.turn.Goals as goal
 
 pub invariant_of-self : goal.invariant_of-self
@@ -32,10 +31,8 @@ pub invariant_of-self-2 : goal.invariant_of-self-2
 invariant_of-self-2 g c =
     let read = (known_block g.P.File.TableHandle c.args.table.now c.args.index (record { place = c.item-at.result.0; len = c.item-at.result.1; key = c.item-at.result.2.now; number = c.item-at.result.3 }) c.in-Ok.count c.fetch.new.loan c.item-at.ensures.item c.in-Ok.ensures.fetched) in
     let same = c.block_in.ensures.block read.entries read.form in
-    subst (λ here. IsPage c.item-at.result.1 c.in-Ok.count 0 here c.fetch.new.loan c.go-self-inside.new.key (entries_in c.in-Ok.count (take c.item-at.result.1 c.fetch.new.loan)))
-    (sym (c.go-self-inside.ensures.at ∙ first_offset c.block_in.result))
-    (full_page c.item-at.result.1 c.in-Ok.count c.fetch.new.loan c.go-self-inside.new.key read.entries read.fits read.form read.counted (sym c.block_in.ensures.reads ∙ same)
-    (λ e there. c.go-self-inside.ensures.key e (ap (λ (es : List Entry). slice_get es 0) same ∙ there)))
+    full_page c.item-at.result.1 c.in-Ok.count c.go-self-inside.result c.fetch.new.loan c.go-self-inside.new.key read.entries read.fits read.form read.counted (sym c.block_in.ensures.reads ∙ same)
+    (subst (λ (es : List Entry). IsSpot es 0 c.go-self-inside.new.key c.go-self-inside.result) same c.go-self-inside.ensures)
 
 pub returns-clause-shows : goal.returns-clause-shows
 returns-clause-shows g c =

@@ -1,8 +1,8 @@
-use Rattle.std.proofs.Common.{◌≡◌, ◌<◌, ◌∙◌, length, OnOk, sym, ap, subst, arith}
+use Rattle.std.proofs.Common.{◌≡◌, ◌<◌, ◌∙◌, length, sym, ap, subst, arith}
 use Rattle.std.specs.Arc.{arc_value}
 use Rattle.table_file.specs.Form.{blocks_of}
-use Rattle.table_cursor.specs.Agreeing.{ShowsOf, IsDamageAt}
-use Rattle.peb_base.specs.Cursors.{IfDamage}
+use Rattle.peb_base.specs.Cursors.{LeadsTo}
+use Rattle.table_cursor.specs.Steps.{where_block}
 use Rattle.table_cursor.specs.Standing.{entries_before, OnPage}
 use Rattle.table_cursor.proofs.Blocks.{length-items}
 use Rattle.table_cursor.proofs.Honest.{turned}
@@ -23,6 +23,7 @@ returns-clause-leads g c = λ es holds told.
     let whole = c.law_blocks.ensures.joined holds.full es holds.least holds.most holds.table.sorted in
     let are = c.law_blocks.ensures.blocks holds.full es holds.least holds.most holds.table.sorted in
     let lt : c.args.index < length (arc_value c.args.self.now.table).items = omega (arith, c.if-index-blocks.false, c.blocks-2.ensures.count, ap (λ t. length t.items) c.deref.ensures) in
-    turned g.P.File.TableHandle _ es holds told whole are c.one_block.ensures c.args.index c.turn.new.self c.turn.result lt
-    (subst (λ t. OnOk c.turn.result (ShowsOf g.P.File.TableHandle t c.args.index c.turn.new.self)) c.deref-2.ensures c.turn.ensures.shows) c.turn.ensures.form c.turn.ensures.first c.turn.ensures.empty
-    (subst (λ t. IfDamage c.turn.result (IsDamageAt g.P.File.TableHandle t c.args.index)) c.deref-2.ensures c.turn.ensures.damaged)
+    let turn = c.turn_to.ensures in
+    let page = c.turn_to.new.self.page in
+    subst (λ index. LeadsTo (OnPage page index (blocks_of holds.full es) es) (where_block c.args.index (blocks_of holds.full es) (entries_before c.args.index (blocks_of holds.full es))) c.turn_to.result) (sym turn.index)
+    (turned g.P.File.TableHandle _ es holds told whole are c.one_block.ensures c.args.index page c.turn_to.result lt turn.shows turn.form turn.first turn.turns.nothing turn.damage)
