@@ -1,13 +1,12 @@
 -- The changes that each kind of edit makes, and what stands after them.
-use Rattle.std.proofs.Common.{◌≡◌, ◌≢◌, ℕ, zero, suc, ◌+◌, ◌-◌, ◌<◌, ◌≤◌, Bool, true, false, not, inl, inr, ◌&&◌, List, [], ◌∷◌, ◌++◌, length, refl, sym, ap, ◌∙◌, subst, arith, append-nil}
-use Rattle.std.specs.Prelude.{map, filter, ◌==◌, get_or, set}
+use Rattle.std.proofs.Common.{◌≡◌, ◌≢◌, ℕ, zero, suc, ◌-◌, ◌≤◌, Bool, true, not, inl, inr, ◌&&◌, List, [], ◌∷◌, ◌++◌, length, refl, sym, ap, ◌∙◌, subst, arith, append-nil}
+use Rattle.std.specs.Prelude.{map, ◌==◌, get_or, set}
 use Rattle.std.specs.List.{AllByRecursion, list_all, list_any}
 use Rattle.std.proofs.lemmas.Bool.{and_parts, and_from, eq-eqb}
 use Rattle.std.proofs.lemmas.List.{length-set}
 use Rattle.peb_base.specs.Guards.{Ascend}
 use Rattle.peb_base.specs.Keys.{Bytes, key_le}
 use Rattle.peb_base.specs.Members.{IsIn}
-use Rattle.peb_base.specs.Profiles.{Column}
 use Rattle.peb_base.specs.declared.table_row.TableRow.{TableRow}
 use Rattle.flsm_model.specs.declared.chosen.Chosen.{Chosen}
 use Rattle.flsm_model.specs.declared.edit.Edit.{Edit}
@@ -18,11 +17,11 @@ use Rattle.flsm_model.specs.Ledgers.{rows_at}
 use Rattle.flsm_model.specs.Ranges.{range_of, with_keys}
 use Rattle.flsm_model.specs.Shape.{Shape, guards_at, has_number, rows_numbered, rows_without, inputs_of, shape_after}
 use Rattle.version.specs.Levels.{Levels}
-use Rattle.version_set.specs.Shapes.{HasTables, IsVersionOf}
-use Rattle.version_set.specs.Changes.{Change, Changes, CanChange, CanStage, IsStagedFor, AreInputs, IsMade, AreTablesOf, Differ, AreAt, LiesInOne, guards_after, live_after}
+use Rattle.version_set.specs.Shapes.{HasTables}
+use Rattle.version_set.specs.Changes.{Change, Changes, CanStage, IsStagedFor, AreInputs, IsMade, AreTablesOf, Differ, AreAt, LiesInOne, guards_after, live_after}
 use Rattle.version_set.proofs.Rows.{at_of, differ_filter, without_none}
 use Rattle.version_set.proofs.Stands.{set_same}
-use Rattle.version_set.proofs.Fitting.{flush_fits, move_fits, merge_fits, cut_fits, FlushFits, MoveFits, MergeFits, CutFits, cut_range, inputs_at, no_inputs, none_own, all_lie, whole_rows, one_range, begins_in}
+use Rattle.version_set.proofs.Fitting.{flush_fits, move_fits, merge_fits, cut_fits, MoveFits, MergeFits, CutFits, cut_range, inputs_at, no_inputs, none_own, all_lie, whole_rows, one_range, begins_in}
 
 -- changes with the same parts are one
 pub change_is : (c : Change) (level : ℕ) (keys : List Bytes) (inputs : List ℕ) (outputs : List TableRow) → c.level ≡ level → c.keys ≡ keys → c.inputs ≡ inputs → c.outputs ≡ outputs

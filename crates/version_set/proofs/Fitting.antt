@@ -1,10 +1,9 @@
 -- What an edit that fits does to the levels.
-use Rattle.std.proofs.Common.{◌≡◌, ◌≢◌, ℕ, zero, suc, ◌+◌, ◌-◌, ◌<◌, ◌≤◌, Bool, true, false, cond, not, ◌&&◌, ◌||◌, List, [], ◌∷◌, ◌++◌, length, refl, sym, ap, ◌∙◌, subst, inl, inr, ◌⊎◌, arith, append-nil, Option, Some, None}
-use Rattle.std.specs.Prelude.{map, filter, ◌==◌, get_or, set, nat_le, nat_lt, if◌then◌else◌}
+use Rattle.std.proofs.Common.{◌≡◌, ℕ, suc, ◌<◌, ◌≤◌, Bool, true, false, not, ◌&&◌, ◌||◌, List, [], ◌∷◌, refl, sym, ap, ◌∙◌, subst, inl, inr, arith, Option, Some, None}
+use Rattle.std.specs.Prelude.{◌==◌, nat_le, nat_lt, if◌then◌else◌}
 use Rattle.std.specs.List.{AllByRecursion, list_all, list_any}
 use Rattle.std.proofs.lemmas.Bool.{and_parts, and_from, eqb-true, ltb-true, leb-true, true≢false, not-true, or_cases}
-use Rattle.std.proofs.lemmas.List.{length-set}
-use Rattle.peb_base.specs.Guards.{Ascend, guard_of, LiesIn}
+use Rattle.peb_base.specs.Guards.{Ascend, guard_of}
 use Rattle.peb_base.specs.Keys.{Bytes, key_lt, key_le}
 use Rattle.peb_base.specs.KeyLaws.{le_lt, le_trans, le_refl, lt_le_weak}
 use Rattle.peb_base.specs.Members.{IsIn}
@@ -14,14 +13,14 @@ use Rattle.peb_base.specs.declared.table_row.TableRow.{TableRow}
 use Rattle.flsm_model.specs.declared.chosen.Chosen.{Chosen}
 use Rattle.flsm_model.specs.declared.edit.Edit.TheVariants.{Flush, Move, Cut, Merge}
 use Rattle.flsm_model.specs.Compaction.{straddles}
-use Rattle.flsm_model.specs.Fits.{fits, numbers_ascend, numbers_differ, is_live, is_straddled, lies_in, lie_apart, range_of_row, input_range, first_smallest, is_new, rows_are_new, may_be_cut, is_cut_output, is_candidate, is_guard, is_of_session}
+use Rattle.flsm_model.specs.Fits.{fits, numbers_ascend, numbers_differ, is_live, is_straddled, lies_in, range_of_row, input_range, is_new, rows_are_new, may_be_cut, is_cut_output, is_candidate, is_guard, is_of_session}
 use Rattle.flsm_model.specs.Ledgers.{rows_at}
 use Rattle.flsm_model.specs.Ranges.{is_below, in_range, range_after, range_of, first_of, with_keys}
 use Rattle.flsm_model.specs.Shape.{Shape, guards_at, has_number, is_numbered, rows_numbered, rows_without}
 use Rattle.flsm_model.specs.Sound.{IsSound}
-use Rattle.version_set.specs.Changes.{Change, Changes, CanChange, Differ, AreAt, AreNumbersOf, AreInputs, IsWhole, LiesInOne, guards_after, live_after}
-use Rattle.version_set.proofs.Rows.{numbers, at_of, in_filtered, filtered_in, none_pass, differ_filter, without_none, right_true, eqb_same}
-use Rattle.version_set.proofs.Stands.{all_in, set_same}
+use Rattle.version_set.specs.Changes.{Differ, AreAt, AreNumbersOf, AreInputs, IsWhole, LiesInOne}
+use Rattle.version_set.proofs.Rows.{numbers, at_of, in_filtered, filtered_in, none_pass, differ_filter, right_true, eqb_same}
+use Rattle.version_set.proofs.Stands.{all_in}
 
 -- ---- tests of lists
 

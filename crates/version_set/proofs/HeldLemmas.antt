@@ -1,16 +1,15 @@
 -- Lists of held numbers.
-use Rattle.std.proofs.Common.{◌≡◌, ◌≢◌, ℕ, zero, suc, ◌+◌, ◌*◌, ◌<◌, ◌≤◌, Bool, true, false, cond, not, ◌&&◌, ◌||◌, List, [], ◌∷◌, ◌++◌, length, take, drop, Some, None, refl, sym, ap, ◌∙◌, subst, inl, inr, ◌⊎◌, arith, one-add}
+use Rattle.std.proofs.Common.{◌≡◌, ◌≢◌, ℕ, zero, suc, ◌+◌, ◌*◌, ◌<◌, ◌≤◌, Bool, true, false, cond, not, ◌&&◌, ◌||◌, List, [], ◌∷◌, length, drop, Some, None, refl, sym, ap, ◌∙◌, subst, inl, inr, ◌⊎◌, arith, one-add}
 use Rattle.std.specs.Prelude.{◌==◌, nat_lt, min, get_or, if◌then◌else◌}
 use Rattle.std.specs.List.{AllByRecursion, position, position_or_len, remove}
 use Rattle.std.proofs.lemmas.List.{drop_more}
-use Rattle.std.proofs.lemmas.Bool.{cases_order, cases_lt, cases_Bool, eq-eqb, eqb-true, lt-ltb, ltb-true, and_parts, true≢false}
+use Rattle.std.proofs.lemmas.Bool.{cases_order, cases_lt, eq-eqb, eqb-true, lt-ltb, ltb-true, true≢false}
 use Rattle.std.proofs.lemmas.Bool.Decides.{nat_tests}
-use Rattle.peb_base.specs.Members.{IsIn}
 use Rattle.flsm_model.specs.Writes.{one_if}
 use Rattle.flsm_model.specs.Jobs.{floor_of}
 use Rattle.flsm_model.specs.Legal.{holds_of}
 use Rattle.flsm_model.specs.Steps.{held_without}
-use Rattle.version_set.specs.Registers.{IsRegister, HasRoom, ComesFirst, IsFirstHeld, is_pair, earlier}
+use Rattle.version_set.specs.Registers.{IsRegister, ComesFirst, IsFirstHeld, is_pair, earlier}
 
 -- ---- how many a register holds
 

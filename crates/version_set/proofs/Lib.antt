@@ -1,7 +1,9 @@
+pub mod Agreeing
 pub mod Cuts
 pub mod Edits
 pub mod Fitting
 pub mod HeldLemmas
+pub mod Holding
 pub mod Parts
 pub mod Rows
 pub mod Stands

@@ -1,17 +1,17 @@
 -- Versions of given guards and tables.
-use Rattle.std.proofs.Common.{◌≡◌, ◌≢◌, ℕ, zero, suc, ◌+◌, ◌-◌, ◌<◌, ◌≤◌, Bool, true, false, cond, List, [], ◌∷◌, ◌++◌, length, take, refl, sym, ap, ◌∙◌, subst, inl, inr, ◌⊎◌, arith, append-nil, append_assoc}
-use Rattle.std.specs.Prelude.{map, filter, ◌==◌, get_or, set, if◌then◌else◌}
+use Rattle.std.proofs.Common.{◌≡◌, ◌≢◌, ℕ, zero, suc, ◌<◌, Bool, true, false, cond, List, [], ◌∷◌, ◌++◌, length, refl, sym, ap, ◌∙◌, subst, inl, inr, ◌⊎◌, arith, append-nil}
+use Rattle.std.specs.Prelude.{map, ◌==◌, get_or, set}
 use Rattle.std.specs.List.{AllByRecursion, AllZip}
 use Rattle.std.proofs.lemmas.Bool.{cases_eq, true≢false}
-use Rattle.std.proofs.lemmas.List.{get_or-set_same, get_or-set_other, length-set, map-append, map-set, take_more}
+use Rattle.std.proofs.lemmas.List.{get_or-set_same, get_or-set_other, length-set, map-append, map-set}
 use Rattle.std.proofs.lemmas.List.Elements.{filter-append}
-use Rattle.peb_base.specs.Guards.{Ascend, guard_of}
+use Rattle.peb_base.specs.Guards.{Ascend}
 use Rattle.peb_base.specs.Keys.{Bytes, key_lt, key_eq}
 use Rattle.peb_base.specs.declared.table_row.TableRow.{TableRow}
 use Rattle.flsm_model.specs.Ledgers.{rows_at}
 use Rattle.flsm_model.specs.Ranges.{with_key, with_keys}
 use Rattle.guard_level.specs.Guards.{Guards, tables_of}
-use Rattle.version.specs.Levels.{Levels, level_at, no_guards}
+use Rattle.version.specs.Levels.{no_guards}
 use Rattle.version_set.specs.Shapes.{HasRows, IsOfLevel, HasTables}
 use Rattle.version_set.specs.Changes.{EachTable, IsWhole}
 use Rattle.version_set.proofs.Rows.{eqb_same, eqb_other}

@@ -1,14 +1,13 @@
 -- Lists of rows, their numbers, and what a test leaves of them.
-use Rattle.std.proofs.Common.{◌≡◌, ◌≢◌, ℕ, zero, suc, ◌<◌, ◌≤◌, Bool, true, false, cond, not, ◌&&◌, ◌||◌, List, [], ◌∷◌, ◌++◌, length, refl, sym, ap, ◌∙◌, subst, inl, inr, ◌⊎◌, arith, append-nil}
-use Rattle.std.specs.Prelude.{map, filter, ◌==◌, if◌then◌else◌}
-use Rattle.std.specs.List.{AllByRecursion, list_all, list_any}
-use Rattle.std.proofs.lemmas.Bool.{eq-eqb, eqb-true, true≢false, and_parts, and_from, not-true}
-use Rattle.std.proofs.lemmas.List.{map-append}
+use Rattle.std.proofs.Common.{◌≡◌, ◌≢◌, ℕ, Bool, true, false, cond, not, ◌&&◌, ◌||◌, List, [], ◌∷◌, ◌++◌, refl, sym, ap, ◌∙◌, inl, inr, ◌⊎◌}
+use Rattle.std.specs.Prelude.{map, filter, ◌==◌}
+use Rattle.std.specs.List.{list_all}
+use Rattle.std.proofs.lemmas.Bool.{eq-eqb, eqb-true, true≢false, and_parts, and_from}
 use Rattle.std.proofs.lemmas.List.Elements.{filter-append}
 use Rattle.peb_base.specs.Members.{IsIn}
 use Rattle.peb_base.specs.declared.table_row.TableRow.{TableRow}
-use Rattle.flsm_model.specs.Shape.{has_number, is_numbered, rows_numbered, rows_without}
-use Rattle.flsm_model.specs.Fits.{numbers_differ, is_live}
+use Rattle.flsm_model.specs.Shape.{has_number, rows_numbered, rows_without}
+use Rattle.flsm_model.specs.Fits.{numbers_differ}
 use Rattle.flsm_model.specs.Ledgers.{rows_at}
 use Rattle.version_set.specs.Changes.{Differ, AreAt}
 

@@ -1,11 +1,11 @@
 -- Versions in which one level is changed.
-use Rattle.std.proofs.Common.{◌≡◌, ◌≢◌, ℕ, zero, suc, ◌+◌, ◌-◌, ◌<◌, ◌≤◌, Bool, true, false, cond, not, ◌&&◌, List, [], ◌∷◌, ◌++◌, length, refl, sym, ap, ◌∙◌, subst, inl, inr, ◌⊎◌, arith, append-nil}
+use Rattle.std.proofs.Common.{◌≡◌, ◌≢◌, ℕ, zero, suc, ◌-◌, ◌<◌, Bool, true, false, cond, List, [], ◌∷◌, ◌++◌, length, refl, sym, ap, ◌∙◌, subst, inl, inr, ◌⊎◌, arith, append-nil}
 use Rattle.std.specs.Prelude.{map, filter, ◌==◌, get_or, set}
 use Rattle.std.specs.List.{AllByRecursion}
 use Rattle.std.proofs.lemmas.Bool.{cases_eq}
 use Rattle.std.proofs.lemmas.List.{get_or-set_same, get_or-set_other, length-set}
-use Rattle.peb_base.specs.Guards.{Ascend, guard_of, LiesIn}
-use Rattle.peb_base.specs.Keys.{Bytes, key_lt}
+use Rattle.peb_base.specs.Guards.{Ascend, guard_of}
+use Rattle.peb_base.specs.Keys.{Bytes}
 use Rattle.peb_base.specs.Members.{IsIn}
 use Rattle.peb_base.specs.declared.entry.Entry.{Entry}
 use Rattle.peb_base.specs.declared.table_row.TableRow.{TableRow}
@@ -16,7 +16,7 @@ use Rattle.guard_level.specs.Guards.{Guards, tables_of, IsCopy}
 use Rattle.guard_level.specs.TableLists.{AreShared}
 use Rattle.version.specs.Levels.{Levels, level_at, no_guards}
 use Rattle.version_set.specs.Shapes.{rows_of_guard, HasRows, IsOfLevel, HasTables}
-use Rattle.version_set.specs.Changes.{EachTable, Change, Changes, CanChange, IsTaken, IsMade, AreInputs, IsChanged, IsWhole, LiesInOne, AreTablesOf, guards_after, live_after}
+use Rattle.version_set.specs.Changes.{EachTable, Change, Changes, IsTaken, IsMade, AreInputs, IsChanged, IsWhole, LiesInOne, AreTablesOf, guards_after, live_after}
 use Rattle.version_set.proofs.Rows.{rows_after, rows_here, rows_elsewhere, without_elsewhere, in_filtered}
 
 -- ---- what holds of each

@@ -1,21 +1,20 @@
 -- The rows of a level, and of level 0, as tables are taken out by their numbers.
-use Rattle.std.proofs.Common.{◌≡◌, ◌≢◌, ℕ, zero, suc, ◌<◌, ◌≤◌, Bool, true, false, cond, not, ◌&&◌, ◌||◌, List, [], ◌∷◌, ◌++◌, length, refl, sym, ap, ◌∙◌, subst, inl, inr, ◌⊎◌, arith, append-nil, append_assoc, ◌+◌, drop}
+use Rattle.std.proofs.Common.{◌≡◌, ◌≢◌, ℕ, zero, suc, ◌<◌, ◌≤◌, true, List, [], ◌∷◌, ◌++◌, length, refl, sym, ap, ◌∙◌, subst, inl, inr, ◌⊎◌, arith, append-nil, append_assoc, ◌+◌, drop}
 use Rattle.std.specs.Prelude.{map, filter, ◌==◌, get_or, set, nat_lt}
 use Rattle.std.specs.List.{AllByRecursion, list_all, zip}
-use Rattle.std.proofs.lemmas.Bool.{cases_eq, cases_lt, eqb-true, ltb-true, true≢false, and_parts}
+use Rattle.std.proofs.lemmas.Bool.{cases_eq, cases_lt, eqb-true, ltb-true, and_parts}
 use Rattle.std.proofs.lemmas.List.{get_or-set_same, get_or-set_other, map-append, drop_more, drop_all}
 use Rattle.peb_base.specs.Guards.{guard_of}
 use Rattle.peb_base.specs.Keys.{Bytes}
 use Rattle.peb_base.specs.Members.{IsIn}
 use Rattle.peb_base.specs.declared.table_row.TableRow.{TableRow}
-use Rattle.flsm_model.specs.Shape.{has_number, rows_without}
-use Rattle.flsm_model.specs.Fits.{numbers_differ, numbers_ascend}
-use Rattle.flsm_model.specs.Ranges.{neighbours}
+use Rattle.flsm_model.specs.Shape.{rows_without}
+use Rattle.flsm_model.specs.Fits.{numbers_ascend}
 use Rattle.guard_level.specs.Guards.{Guards, tables_of, Takes}
-use Rattle.guard_level.specs.TableLists.{IsAbsent, TakesOut, TakesFrom}
+use Rattle.guard_level.specs.TableLists.{IsAbsent, TakesOut}
 use Rattle.version_set.specs.Shapes.{rows_of_guard, HasRows}
-use Rattle.version_set.specs.Changes.{Differ, AreNumbersOf, AreInputs, AreTablesOf, IsTaken}
-use Rattle.version_set.proofs.Rows.{numbers, is_other, other_is, without_one, without_more, without_none, one_row, in_middle, in_filtered, filtered_in, filters_swap, all_pass, differ_filter, eqb_same}
+use Rattle.version_set.specs.Changes.{Differ, AreNumbersOf, AreInputs, IsTaken}
+use Rattle.version_set.proofs.Rows.{is_other, other_is, without_one, without_more, without_none, one_row, in_middle, in_filtered, filtered_in, filters_swap, all_pass, differ_filter, eqb_same}
 
 past_end : {X : Type 0} (xs : List (List X)) (i : ℕ) → length xs ≤ i → get_or xs i [] ≡ []
 past_end [] i past = refl
@@ -157,7 +156,7 @@ pub record Taking {T : Type 0} (row : T → TableRow) (Has : List TableRow → T
 pub taking_begins : {T : Type 0} (row : T → TableRow) (Has : List TableRow → Type 0) (ns : List ℕ) (rows : List TableRow) → Has rows → AreInputs ns rows → Taking row Has [] ns ns rows
 taking_begins row Has ns rows has are = record { middle = rows; has = has; inputs_are = are; rest = refl; fewer = λ r h. h; numbered = refl; among = tt }
 
-all_push : {X : Type 0} (P : X → Type 0) (xs : List X) (x : X) → AllByRecursion P xs → P x → AllByRecursion P (xs ++ x ∷ [])
+pub all_push : {X : Type 0} (P : X → Type 0) (xs : List X) (x : X) → AllByRecursion P xs → P x → AllByRecursion P (xs ++ x ∷ [])
 all_push P [] x h p = (p, tt)
 all_push P (y ∷ ys) x h p = (h.0, all_push P ys x h.1 p)
 

@@ -1,5 +1,5 @@
 -- What an edit does to one level: tables are taken away, keys become guards, tables are added.
-use Rattle.std.specs.Prelude.{◌≡◌, ◌≢◌, ℕ, ◌-◌, ◌≤◌, true, List, [], ◌∷◌, ◌++◌, length, map, get_or, set, ◌==◌}
+use Rattle.std.specs.Prelude.{◌≡◌, ◌≢◌, ℕ, ◌-◌, ◌≤◌, true, List, [], ◌++◌, length, map, get_or, set, ◌==◌}
 use Rattle.std.specs.List.{AllByRecursion, list_all}
 use Rattle.peb_base.specs.Guards.{Ascend, guard_of, LiesIn}
 use Rattle.peb_base.specs.Keys.{Bytes, key_lt}

@@ -1,4 +1,6 @@
 pub mod Changes
+pub mod ContentLaws
+pub mod Contents
 pub mod Registers
 pub mod Shapes
 pub mod Versions

@@ -5,6 +5,7 @@ ghost use Rattle.std.specs.List.{AllByRecursion, AllZip};
 ghost use Rattle.peb_base.specs.Guards.{Ascend};
 ghost use Rattle.peb_base.specs.Keys.{Bytes};
 ghost use Rattle.peb_base.specs.declared.table_row.TableRow.{TableRow};
+ghost use Rattle.version_set.specs.Contents.{EachLive, ContentsStay};
 ghost use Rattle.version_set.specs.Shapes.{IsOfLevel, HasTables, HasPlace};
 
 use crate::changing::{append_one, cut_all};
@@ -53,10 +54,15 @@ fn place<T: TableLike + Drop>(
         guards live
         → HasTables T.HasRow.the_row (record { top = top.new.items; levels = levels.new.items })
         guards (live ++ T.HasRow.the_row table.now ∷ [])) }
+    ensures contents { OnOk result (ContentsStay T.HasRow.the_row T.HasRow.holds
+        (λ P. EachLive P (record { top = top.old.items; levels = levels.old.items })
+        × P table.now)
+        (λ P. EachLive P (record { top = top.new.items; levels = levels.new.items }))) }
 {
     let level = table.row().level;
     if level == 0 {
-        top.push(table.share()?)?;
+        let handle = table.share()?;
+        top.push(handle)?;
         return Ok(());
     }
     append_one(&mut levels[level as usize - 1], table)
@@ -70,11 +76,15 @@ pub fn place_all<T: TableLike + Drop>(
 ) -> Result<(), Memory>
     requires { AllByRecursion (λ t. HasPlace (map (λ level. level.keys) levels.old.items)
         (T.HasRow.the_row t)) tables.now }
-    ensures { OnOk result ((guards : List (List Bytes)) (live : List TableRow)
+    ensures stands { OnOk result ((guards : List (List Bytes)) (live : List TableRow)
         → HasTables T.HasRow.the_row (record { top = top.old.items; levels = levels.old.items })
         guards live
         → HasTables T.HasRow.the_row (record { top = top.new.items; levels = levels.new.items })
         guards (live ++ map T.HasRow.the_row tables.now)) }
+    ensures contents { OnOk result (ContentsStay T.HasRow.the_row T.HasRow.holds
+        (λ P. EachLive P (record { top = top.old.items; levels = levels.old.items })
+        × AllByRecursion P tables.now)
+        (λ P. EachLive P (record { top = top.new.items; levels = levels.new.items }))) }
 {
     for table in tables {
         place(top, levels, table)?;

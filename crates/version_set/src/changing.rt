@@ -7,6 +7,7 @@ ghost use Rattle.peb_base.specs.declared.table_row.TableRow.{TableRow};
 ghost use Rattle.flsm_model.specs.Ranges.{with_key, with_keys};
 ghost use Rattle.guard_level.specs.TableLists.{IsAbsent, TakesOut};
 ghost use Rattle.version_set.specs.Shapes.{HasRows};
+ghost use Rattle.version_set.specs.Contents.{EachLive, ContentsStay};
 ghost use Rattle.version_set.specs.Changes.{EachTable, AreInputs, IsTaken, IsWhole, LiesInOne, Change, change_of, Changes, IsMade};
 
 use guard_level::Level;
@@ -25,6 +26,8 @@ fn take_all<T: TableLike + Drop>(
         → HasRows T.HasRow.the_row level.old rows → AreInputs numbers.now rows
         → IsTaken T.HasRow.the_row (HasRows T.HasRow.the_row level.new)
         gone.items numbers.now rows) }
+    ensures contents { IfOk result (λ gone. ContentsStay T.HasRow.the_row T.HasRow.holds
+        (λ P. EachTable P level.old) (λ P. EachTable P level.new × AllByRecursion P gone.items)) }
 {
     let mut gone = Vec::new(alloc);
     for number in numbers {
@@ -44,6 +47,8 @@ fn cut_one<T: TableLike + Drop>(level: &mut Level<T>, key: Key) -> Result<(), Me
     ensures whole { OnOk result ((other : Bytes)
         → EachTable (λ t. IsWhole other (T.HasRow.the_row t)) level.old
         → EachTable (λ t. IsWhole other (T.HasRow.the_row t)) level.new) }
+    ensures contents { OnOk result (ContentsStay T.HasRow.the_row T.HasRow.holds
+        (λ P. EachTable P level.old) (λ P. EachTable P level.new)) }
 {
     let _guards = level.keys();
     level.cut(key)
@@ -60,6 +65,8 @@ pub fn cut_all<T: TableLike + Drop>(
     ensures keys { OnOk result (level.new.keys ≡ with_keys keys.now level.old.keys) }
     ensures rows { OnOk result ((rows : List TableRow) → HasRows T.HasRow.the_row level.old rows
         → HasRows T.HasRow.the_row level.new rows) }
+    ensures contents { OnOk result (ContentsStay T.HasRow.the_row T.HasRow.holds
+        (λ P. EachTable P level.old) (λ P. EachTable P level.new)) }
 {
     let mut left = keys.len();
     while left > 0 {
@@ -75,6 +82,8 @@ pub fn append_one<T: TableLike + Drop>(level: &mut Level<T>, table: &T) -> Resul
     ensures keys { OnOk result (level.new.keys ≡ level.old.keys) }
     ensures rows { OnOk result ((rows : List TableRow) → HasRows T.HasRow.the_row level.old rows
         → HasRows T.HasRow.the_row level.new (rows ++ T.HasRow.the_row table.now ∷ [])) }
+    ensures contents { OnOk result (ContentsStay T.HasRow.the_row T.HasRow.holds
+        (λ P. EachTable P level.old × P table.now) (λ P. EachTable P level.new)) }
 {
     let _guards = level.keys();
     let shared = table.share()?;
@@ -90,6 +99,8 @@ fn append_all<T: TableLike + Drop>(level: &mut Level<T>, tables: &[T]) -> Result
     ensures keys { OnOk result (level.new.keys ≡ level.old.keys) }
     ensures rows { OnOk result ((rows : List TableRow) → HasRows T.HasRow.the_row level.old rows
         → HasRows T.HasRow.the_row level.new (rows ++ map T.HasRow.the_row tables.now)) }
+    ensures contents { OnOk result (ContentsStay T.HasRow.the_row T.HasRow.holds
+        (λ P. EachTable P level.old × AllByRecursion P tables.now) (λ P. EachTable P level.new)) }
 {
     for table in tables {
         append_one(level, table)?;
@@ -110,11 +121,14 @@ fn change_level<T: TableLike + Drop>(
     requires may { (guards : List (List Bytes)) × (live : List TableRow)
         × Changes T.HasRow.the_row version.now guards live
         (change_of T.HasRow.the_row level keys.now inputs.now tables.now) }
-    ensures { IfOk result (λ made. (guards : List (List Bytes)) (live : List TableRow)
+    ensures made { IfOk result (λ made. (guards : List (List Bytes)) (live : List TableRow)
         → Changes T.HasRow.the_row version.now guards live
         (change_of T.HasRow.the_row level keys.now inputs.now tables.now)
         → IsMade T.HasRow.the_row (made.0, made.1.items) guards live
         (change_of T.HasRow.the_row level keys.now inputs.now tables.now)) }
+    ensures contents { IfOk result (λ made. ContentsStay T.HasRow.the_row T.HasRow.holds
+        (λ P. EachLive P version.now × AllByRecursion P tables.now)
+        (λ P. EachLive P made.0 × AllByRecursion P made.1.items)) }
 {
     let old = version.level(level);
     let _guards = old.keys();
@@ -128,11 +142,15 @@ fn change_level<T: TableLike + Drop>(
 
 /// Puts further handles to tables behind others.
 fn share_onto<T: TableLike + Drop>(shared: &mut Vec<T>, tables: &[T]) -> Result<(), Memory>
-    ensures { OnOk result (map T.HasRow.the_row shared.new.items
+    ensures rows { OnOk result (map T.HasRow.the_row shared.new.items
         ≡ map T.HasRow.the_row shared.old.items ++ map T.HasRow.the_row tables.now) }
+    ensures contents { OnOk result (ContentsStay T.HasRow.the_row T.HasRow.holds
+        (λ P. AllByRecursion P shared.old.items × AllByRecursion P tables.now)
+        (λ P. AllByRecursion P shared.new.items)) }
 {
     for table in tables {
-        shared.push(table.share()?)?;
+        let handle = table.share()?;
+        shared.push(handle)?;
     }
     Ok(())
 }
@@ -142,6 +160,7 @@ fn take_table<T: HasRow + Drop>(tables: &mut Vec<T>, number: u64) -> Option<T>
     ensures taken { IfSome result (λ table. TakesOut T.the_row number tables.old.items table
         tables.new.items) }
     ensures none { IfNone result (IsAbsent T.the_row number tables.old.items) }
+    ensures same { IfNone result (tables.new.items ≡ tables.old.items) }
 {
     for at in 0..tables.len() {
         if tables[at].row().number == number {
@@ -157,10 +176,13 @@ fn take_from_top<T: TableLike + Drop>(
     tables: &mut Vec<T>,
     numbers: &[u64],
 ) -> Result<Vec<T>, Memory>
-    ensures { IfOk result (λ gone. (rows : List TableRow)
+    ensures taken { IfOk result (λ gone. (rows : List TableRow)
         → map T.HasRow.the_row tables.old.items ≡ rows → AreInputs numbers.now rows
         → IsTaken T.HasRow.the_row (λ left. map T.HasRow.the_row tables.new.items ≡ left)
         gone.items numbers.now rows) }
+    ensures contents { IfOk result (λ gone. ContentsStay T.HasRow.the_row T.HasRow.holds
+        (λ P. AllByRecursion P tables.old.items)
+        (λ P. AllByRecursion P tables.new.items × AllByRecursion P gone.items)) }
 {
     let mut gone = Vec::new(alloc);
     for number in numbers {
@@ -178,10 +200,13 @@ fn change_top<T: TableLike + Drop>(
     inputs: &[u64],
     tables: &[T],
 ) -> Result<(Version<T>, Vec<T>), Memory>
-    ensures { IfOk result (λ made. (guards : List (List Bytes)) (live : List TableRow) (c : Change)
-        → Changes T.HasRow.the_row version.now guards live c
+    ensures made { IfOk result (λ made. (guards : List (List Bytes)) (live : List TableRow)
+        (c : Change) → Changes T.HasRow.the_row version.now guards live c
         → c.level ≡ 0 → c.inputs ≡ inputs.now → c.outputs ≡ map T.HasRow.the_row tables.now
         → IsMade T.HasRow.the_row (made.0, made.1.items) guards live c) }
+    ensures contents { IfOk result (λ made. ContentsStay T.HasRow.the_row T.HasRow.holds
+        (λ P. EachLive P version.now × AllByRecursion P tables.now)
+        (λ P. EachLive P made.0 × AllByRecursion P made.1.items)) }
 {
     let mut top = Vec::new(alloc);
     share_onto(&mut top, version.top())?;
@@ -204,11 +229,14 @@ pub fn change<T: TableLike + Drop>(
     requires { (guards : List (List Bytes)) × (live : List TableRow)
         × Changes T.HasRow.the_row version.now guards live
         (change_of T.HasRow.the_row level keys.now inputs.now tables.now) }
-    ensures { IfOk result (λ made. (guards : List (List Bytes)) (live : List TableRow)
+    ensures made { IfOk result (λ made. (guards : List (List Bytes)) (live : List TableRow)
         → Changes T.HasRow.the_row version.now guards live
         (change_of T.HasRow.the_row level keys.now inputs.now tables.now)
         → IsMade T.HasRow.the_row (made.0, made.1.items) guards live
         (change_of T.HasRow.the_row level keys.now inputs.now tables.now)) }
+    ensures contents { IfOk result (λ made. ContentsStay T.HasRow.the_row T.HasRow.holds
+        (λ P. EachLive P version.now × AllByRecursion P tables.now)
+        (λ P. EachLive P made.0 × AllByRecursion P made.1.items)) }
 {
     if level == 0 {
         return change_top(alloc, version, inputs, tables);

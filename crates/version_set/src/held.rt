@@ -1,6 +1,6 @@
 //! Held numbers.
 
-ghost use Rattle.std.specs.Prelude.{◌≡◌, ◌≤◌, ◌<◌, [], ◌∷◌, length, min, IfOk, IfSome, IfNone};
+ghost use Rattle.std.specs.Prelude.{◌≡◌, ◌≤◌, ◌<◌, ◌↔◌, IsTrue, [], ◌∷◌, length, min, IfOk, IfSome, IfNone};
 ghost use Rattle.std.specs.List.{position};
 ghost use Rattle.flsm_model.specs.Jobs.{floor_of};
 ghost use Rattle.flsm_model.specs.Legal.{holds_of};
@@ -56,6 +56,13 @@ impl Held {
         };
     }
 
+    /// Whether a client may hold one number more: it is at most 16, and holds fewer than 64.
+    pub fn can_hold(&self, client: u32) -> bool
+        ensures { IsTrue result ↔ (client ≤ 16 × holds_of client self.now < 64) }
+    {
+        client <= CLIENTS && count_of(&self.pairs, client) < MOST
+    }
+
     /// Releases a number that the client holds, once. One that it doesn't hold changes nothing.
     pub fn release(&mut self, client: u32, number: Number)
         ensures { self.new ≡ held_without (client, number) self.old }
@@ -97,6 +104,19 @@ fn place_of(pairs: &[(u32, Number)], client: u32, number: Number) -> Option<usiz
     pairs
         .iter()
         .position(|pair| client == pair.0 && number == pair.1)
+}
+
+/// How many of the pairs are the client's.
+fn count_of(pairs: &[(u32, Number)], client: u32) -> usize
+    ensures { result ≡ holds_of client pairs.now }
+{
+    let mut count = 0;
+    for pair in pairs {
+        if pair.0 == client {
+            count += 1;
+        }
+    }
+    count
 }
 
 /// The lesser of two numbers.

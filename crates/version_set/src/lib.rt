@@ -9,11 +9,13 @@
 mod building;
 mod changing;
 mod held;
+mod laws;
 mod staged;
 mod staging;
 #[cfg(test)]
 mod tests;
 mod version_set;
 
+pub use laws::law_contents;
 pub use staged::Staged;
 pub use version_set::VersionSet;

@@ -1,9 +1,11 @@
 //! The version that an edit makes.
 
 ghost use Rattle.std.specs.Prelude.{◌≡◌, ℕ, List, map, IfOk};
+ghost use Rattle.std.specs.List.{AllByRecursion};
 ghost use Rattle.std.specs.Arc.{arc_value};
 ghost use Rattle.flsm_model.specs.Shape.{Shape};
 ghost use Rattle.version_set.specs.Changes.{CanStage, IsStagedFor};
+ghost use Rattle.version_set.specs.Contents.{EachLive, ContentsStay};
 
 use crate::changing::change;
 use flsm_model::Edit;
@@ -22,10 +24,14 @@ fn moved<T: TableLike + Drop>(
 ) -> Result<(Version<T>, Vec<T>), Memory>
     requires { (s : Shape) × (floor : ℕ) × CanStage T.HasRow.the_row version.now s
         (Edit.Move level floor inputs.now (map T.HasRow.the_row tables.now)) tables.now }
-    ensures { IfOk result (λ made. (s : Shape) (floor : ℕ) → CanStage T.HasRow.the_row version.now s
+    ensures made { IfOk result (λ made. (s : Shape) (floor : ℕ)
+        → CanStage T.HasRow.the_row version.now s
         (Edit.Move level floor inputs.now (map T.HasRow.the_row tables.now)) tables.now
         → IsStagedFor T.HasRow.the_row made.0 made.1.items s
         (Edit.Move level floor inputs.now (map T.HasRow.the_row tables.now))) }
+    ensures contents { IfOk result (λ made. ContentsStay T.HasRow.the_row T.HasRow.holds
+        (λ P. EachLive P version.now × AllByRecursion P tables.now)
+        (λ P. EachLive P made.0 × AllByRecursion P made.1.items)) }
 {
     let no_keys: Vec<Key> = Vec::new(alloc);
     let no_inputs: Vec<u64> = Vec::new(alloc);
@@ -44,9 +50,12 @@ fn made<T: TableLike + Drop>(
     tables: &[T],
 ) -> Result<(Version<T>, Vec<T>), Memory>
     requires { (s : Shape) × CanStage T.HasRow.the_row version.now s edit.now tables.now }
-    ensures { IfOk result (λ made. (s : Shape) → CanStage T.HasRow.the_row version.now s edit.now
-        tables.now
+    ensures made { IfOk result (λ made. (s : Shape)
+        → CanStage T.HasRow.the_row version.now s edit.now tables.now
         → IsStagedFor T.HasRow.the_row made.0 made.1.items s edit.now) }
+    ensures contents { IfOk result (λ made. ContentsStay T.HasRow.the_row T.HasRow.holds
+        (λ P. EachLive P version.now × AllByRecursion P tables.now)
+        (λ P. EachLive P made.0 × AllByRecursion P made.1.items)) }
 {
     let no_keys: Vec<Key> = Vec::new(alloc);
     let no_inputs: Vec<u64> = Vec::new(alloc);
@@ -79,9 +88,12 @@ pub fn next_version<T: TableLike + Drop>(
     tables: &[T],
 ) -> Result<(Arc<Version<T>, Global>, Vec<T>), Memory>
     requires { (s : Shape) × CanStage T.HasRow.the_row version.now s edit.now tables.now }
-    ensures { IfOk result (λ next. (s : Shape) → CanStage T.HasRow.the_row version.now s edit.now
-        tables.now
+    ensures made { IfOk result (λ next. (s : Shape)
+        → CanStage T.HasRow.the_row version.now s edit.now tables.now
         → IsStagedFor T.HasRow.the_row (arc_value next.0) next.1.items s edit.now) }
+    ensures contents { IfOk result (λ next. ContentsStay T.HasRow.the_row T.HasRow.holds
+        (λ P. EachLive P version.now × AllByRecursion P tables.now)
+        (λ P. EachLive P (arc_value next.0) × AllByRecursion P next.1.items)) }
 {
     let (version, gone) = made(alloc, version, edit, tables)?;
     let next = Arc::new(alloc, version)?;

@@ -321,3 +321,33 @@ fn numbers_are_held_until_they_are_released(rt: HostRuntime) -> Result<(), Fail>
     );
     Ok(())
 }
+
+/// Holds numbers for a client until it can't hold another, and tells how many these are.
+fn numbers_held(set: &mut VersionSet<Handle>, client: u32) -> u64 {
+    for count in 0..100 {
+        if !set.can_hold(client) {
+            return count;
+        }
+        set.hold(client, Number::new(1, count + 1));
+    }
+    100
+}
+
+#[test]
+fn each_client_holds_up_to_sixty_four_numbers(rt: HostRuntime) -> Result<(), Fail> {
+    let alloc = rt.alloc();
+    let mut set: VersionSet<Handle> = VersionSet::new(alloc, &Options::of(Profile::Small))?;
+    assert_eq!(rt;
+        (numbers_held(&mut set, 16), numbers_held(&mut set, 0)),
+        (64, 64)
+    );
+    assert_eq!(rt; numbers_held(&mut set, 17), 0);
+    set.release(16, Number::new(1, 65));
+    assert_eq!(rt; (set.can_hold(16), set.can_hold(0)), (false, false));
+    set.release(16, Number::new(1, 1));
+    assert_eq!(rt; (set.can_hold(16), set.can_hold(0)), (true, false));
+    assert_eq!(rt; set.floor(Number::new(1, 9)).count(), 1);
+    set.release(0, Number::new(1, 1));
+    assert_eq!(rt; set.floor(Number::new(1, 9)).count(), 2);
+    Ok(())
+}

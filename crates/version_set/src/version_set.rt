@@ -1,10 +1,11 @@
 //! Version sets.
 
-ghost use Rattle.std.specs.Prelude.{◌≡◌, ◌≤◌, ◌<◌, ◌∷◌, [], IfOk, IfErr, OnErr, IfSome, IfNone, length, map};
+ghost use Rattle.std.specs.Prelude.{◌≡◌, ◌≤◌, ◌<◌, ◌↔◌, ◌∷◌, [], ℕ, List, IfOk, IsTrue, IfErr, OnErr, IfSome, IfNone, length, map};
 ghost use Rattle.std.specs.Arc.{arc_value};
 ghost use Rattle.std.specs.List.{AllByRecursion};
 ghost use Rattle.peb_base.specs.Guards.{Ascend};
 ghost use Rattle.peb_base.specs.Profiles.{column};
+ghost use Rattle.peb_base.specs.declared.entry.Entry.{Entry};
 ghost use Rattle.flsm_model.specs.Jobs.{floor_of};
 ghost use Rattle.flsm_model.specs.Legal.{holds_of};
 ghost use Rattle.flsm_model.specs.Steps.{held_without};
@@ -12,6 +13,7 @@ ghost use Rattle.flsm_model.specs.Shape.{Shape, empty_shape};
 ghost use Rattle.version_set.specs.Registers.{IsFirstHeld};
 ghost use Rattle.version_set.specs.Shapes.{IsEmptyLevel, HasPlace, HasTables, IsVersionOf};
 ghost use Rattle.version_set.specs.Changes.{CanStage, IsStagedFor};
+ghost use Rattle.version_set.specs.Contents.{EachLive, HoldEach, ContentsStay};
 
 use crate::building::{levels_of, place_all};
 use crate::held::Held;
@@ -61,6 +63,8 @@ impl<T: TableLike + Drop> VersionSet<T> {
         ensures stands { IfOk result
             (λ set. IsVersionOf T.HasRow.the_row set.current
             (empty_shape (column options.now.profile))) }
+        ensures contents { IfOk result (λ set. (content : ℕ → List Entry)
+            → HoldEach T.HasRow.the_row T.HasRow.holds content set.current) }
         ensures held { IfOk result (λ set. set.held ≡ []) }
     {
         let levels = no_levels(alloc, options.last_level)?;
@@ -76,7 +80,7 @@ impl<T: TableLike + Drop> VersionSet<T> {
     /// order, and without held numbers.
     ///
     /// There are at most 255 levels, the guards of each ascend strictly, and each table has its
-    /// place.
+    /// place. Where each table holds the entries that its number stands for, each of the set does.
     pub fn of_parts(
         alloc: Global,
         guards: &[List<Key>],
@@ -86,8 +90,11 @@ impl<T: TableLike + Drop> VersionSet<T> {
         requires ascend { AllByRecursion (Ascend []) guards.now }
         requires placed { AllByRecursion (λ t. HasPlace guards.now (T.HasRow.the_row t))
             tables.now }
+        // what it gives
         ensures stands { IfOk result (λ set. HasTables T.HasRow.the_row set.current guards.now
             (map T.HasRow.the_row tables.now)) }
+        ensures contents { IfOk result (λ set. ContentsStay T.HasRow.the_row T.HasRow.holds
+            (λ P. AllByRecursion P tables.now) (λ P. EachLive P set.current)) }
         ensures held { IfOk result (λ set. set.held ≡ []) }
     {
         let mut top = Vec::new(alloc);
@@ -106,13 +113,18 @@ impl<T: TableLike + Drop> VersionSet<T> {
     /// Makes the version after an edit, and changes nothing.
     ///
     /// The current version stands for a shape that a legal record leaves, the edit fits it, and
-    /// `tables` are its outputs, in order. Want of memory gives the tables back.
+    /// `tables` are its outputs, in order. Where each table of the current version, and each of
+    /// `tables`, holds the entries that its number stands for, each of the next version does, and
+    /// each that goes. Want of memory gives the tables back.
     pub fn stage(&self, edit: &Edit, tables: Vec<T>) -> Result<Staged<T>, (Memory, Vec<T>)>
         requires { (s : Shape) × CanStage T.HasRow.the_row self.now.current s edit.now
             tables.items }
         ensures staged { IfOk result (λ staged. (s : Shape)
             → CanStage T.HasRow.the_row self.now.current s edit.now tables.items
             → IsStagedFor T.HasRow.the_row staged.next staged.gone s edit.now) }
+        ensures contents { IfOk result (λ staged. ContentsStay T.HasRow.the_row T.HasRow.holds
+            (λ P. EachLive P self.now.current × AllByRecursion P tables.items)
+            (λ P. EachLive P staged.next × AllByRecursion P staged.gone)) }
         ensures given { IfOk result (λ staged. staged.given ≡ tables.items) }
         ensures back { IfErr result (λ fault. fault.1.items ≡ tables.items) }
     {
@@ -144,17 +156,24 @@ impl<T: TableLike + Drop> VersionSet<T> {
         gone
     }
 
-    /// Makes an edit, as `stage` and `swap` do, and gives the tables that it takes away. Want of
-    /// memory changes nothing and gives `tables` back.
+    /// Makes an edit, as `stage` and `swap` do, and gives the tables that it takes away. Tables go
+    /// on to hold what their numbers stand for. Want of memory changes nothing and gives `tables`
+    /// back.
     pub fn apply(&mut self, edit: &Edit, tables: Vec<T>) -> Result<Vec<T>, (Memory, Vec<T>)>
         requires { (s : Shape) × CanStage T.HasRow.the_row self.old.current s edit.now
             tables.items }
+        // what it gives
         ensures staged { IfOk result (λ gone. (s : Shape)
             → CanStage T.HasRow.the_row self.old.current s edit.now tables.items
             → IsStagedFor T.HasRow.the_row self.new.current gone.items s edit.now) }
-        ensures held { self.new.held ≡ self.old.held }
+        ensures contents { IfOk result (λ gone. ContentsStay T.HasRow.the_row T.HasRow.holds
+            (λ P. EachLive P self.old.current × AllByRecursion P tables.items)
+            (λ P. EachLive P self.new.current × AllByRecursion P gone.items)) }
+        // when it fails
         ensures err { OnErr result (self.new ≡ self.old) }
         ensures back { IfErr result (λ fault. fault.1.items ≡ tables.items) }
+        // what stays
+        ensures held { self.new.held ≡ self.old.held }
     {
         match self.stage(edit, tables) {
             Ok(staged) => Ok(self.swap(staged)),
@@ -183,6 +202,13 @@ impl<T: TableLike + Drop> VersionSet<T> {
         ensures { self.new ≡ record self.old { held = (client, number) ∷ self.old.held } }
     {
         self.held.hold(client, number);
+    }
+
+    /// Whether a client may hold one number more: it is at most 16, and holds fewer than 64.
+    pub fn can_hold(&self, client: u32) -> bool
+        ensures { IsTrue result ↔ (client ≤ 16 × holds_of client self.now.held < 64) }
+    {
+        self.held.can_hold(client)
     }
 
     /// Releases a number that the client holds, once, without memory. One that it doesn't hold

@@ -1,5 +1,6 @@
-use Rattle.std.proofs.Common.{map, refl}
+use Rattle.std.proofs.Common.{◌-◌, map, refl}
 use Rattle.version_set.specs.Changes.{Change}
+use Rattle.version_set.proofs.Holding.{level_holds}
 use Rattle.version_set.proofs.Stands.{can_cut, can_append, made_level}
 use Rattle.version_set.proofs.changing.change_level.Goals as goal
 
@@ -15,8 +16,8 @@ append_all-requires g c =
     can_append g.T.HasRow.the_row g.T.HasRow.holds c.args.version.now c.requires.may.0 c.requires.may.1 change c.level-old.result.now c.in_ok-next.next c.take_all.new.level c.cut_all.new.level c.args.tables.now
     c.requires.may.2 c.requires.below c.level-old.ensures c.keys-guards.ensures.ascend c.in_ok-next.ensures c.in_ok-gone.ensures.keys c.in_ok-cut_all.ensures.keys refl
 
-pub returns : goal.returns
-returns g c = λ guards live may.
+pub returns-clause-made : goal.returns-clause-made
+returns-clause-made g c = λ guards live may.
     let change : Change = record { level = c.args.level; keys = c.args.keys.now; inputs = c.args.inputs.now; outputs = map g.T.HasRow.the_row c.args.tables.now } in
     made_level g.T.HasRow.the_row g.T.HasRow.holds c.args.version.now c.in_ok-made.made guards live change c.level-old.result.now c.in_ok-next.next c.take_all.new.level c.cut_all.new.level c.append_all.new.level
     c.in_ok-gone.gone.items may c.requires.below c.level-old.ensures
@@ -30,3 +31,9 @@ returns g c = λ guards live may.
       done_rows = c.in_ok-append_all.ensures.rows;
     })
     c.in_ok-made.ensures
+
+pub returns-clause-contents : goal.returns-clause-contents
+returns-clause-contents g c =
+    level_holds g.T.HasRow.the_row g.T.HasRow.holds c.args.version.now c.in_ok-made.made (c.args.level - 1) c.level-old.result.now c.in_ok-next.next c.take_all.new.level c.cut_all.new.level
+    c.append_all.new.level c.in_ok-gone.gone.items c.args.tables.now c.level-old.ensures c.in_ok-next.ensures c.in_ok-gone.ensures.contents c.in_ok-cut_all.ensures.contents
+    c.in_ok-append_all.ensures.contents c.in_ok-made.ensures

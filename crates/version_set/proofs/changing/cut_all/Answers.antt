@@ -1,6 +1,5 @@
-use Rattle.std.proofs.Common.{◌∙◌, ap, sym, arith, drop}
-use Rattle.std.specs.List.{AllByRecursion}
-use Rattle.flsm_model.specs.Ranges.{with_key, with_keys}
+use Rattle.std.proofs.Common.{◌∙◌, ap, arith}
+use Rattle.flsm_model.specs.Ranges.{with_key}
 use Rattle.version_set.specs.Changes.{EachTable, IsWhole}
 use Rattle.version_set.proofs.Cuts.{keys_on}
 use Rattle.version_set.proofs.Stands.{all_weaker}
@@ -18,4 +17,5 @@ loop-left-preserved g c =
       rows = λ rows each. c.in_ok-cut_one.ensures.rows rows (c.loop-left.invariant.rows rows each);
       whole = all_weaker (λ key. EachTable (λ t. IsWhole key (row t)) c.loop-left.level) (λ key. EachTable (λ t. IsWhole key (row t)) c.cut_one.new.level) keys
           (λ key each. c.in_ok-cut_one.ensures.whole key each) c.loop-left.invariant.whole;
+      contents = λ content each. c.in_ok-cut_one.ensures.contents content (c.loop-left.invariant.contents content each);
     }

@@ -1,6 +1,7 @@
 use Rattle.std.proofs.Common.{◌∙◌, ap, subst, sym}
 use Rattle.version_set.specs.Shapes.{HasRows}
 use Rattle.version_set.specs.Changes.{EachTable, IsWhole}
+use Rattle.version_set.specs.Contents.{HoldsContent}
 use Rattle.version_set.proofs.Cuts.{on_ok_map, cut_keys, cut_rows, cut_each}
 use Rattle.version_set.proofs.changing.cut_one.Goals as goal
 
@@ -17,3 +18,8 @@ pub returns-clause-whole : goal.returns-clause-whole
 returns-clause-whole g c =
     on_ok_map c.cut.result (λ is other each. subst (EachTable (λ t. IsWhole other (g.T.HasRow.the_row t))) (sym is)
     (cut_each (λ t. IsWhole other (g.T.HasRow.the_row t)) g.T.HasRow.the_row c.args.key c.args.level.now c.keys-guards.ensures.each each)) c.cut.ensures.ok
+
+pub returns-clause-contents : goal.returns-clause-contents
+returns-clause-contents g c =
+    on_ok_map c.cut.result (λ is content each. subst (EachTable (HoldsContent g.T.HasRow.the_row g.T.HasRow.holds content)) (sym is)
+    (cut_each (HoldsContent g.T.HasRow.the_row g.T.HasRow.holds content) g.T.HasRow.the_row c.args.key c.args.level.now c.keys-guards.ensures.each each)) c.cut.ensures.ok

@@ -1,20 +1,35 @@
-use Rattle.std.proofs.Common.{◌∙◌, ap}
+use Rattle.std.proofs.Common.{◌∙◌, ap, subst, sym}
+use Rattle.std.specs.Prelude.{get_or}
+use Rattle.std.specs.List.{AllByRecursion}
+use Rattle.version_set.specs.Contents.{HoldsContent}
+use Rattle.version_set.proofs.Holding.{top_step}
 use Rattle.version_set.proofs.Taken.{AreRowsOf, list_step, list_none, taking_done}
 use Rattle.version_set.proofs.changing.take_from_top.Goals as goal
 use Rattle.version_set.proofs.changing.take_from_top.Goals.{in-Some+in_ok-push, in_default}
 
 pub loop-number-preserved : goal.loop-number-preserved
-loop-number-preserved g c = λ rows each are.
+loop-number-preserved g c =
     let row = g.T.HasRow.the_row in
     let numbers = c.args.numbers.now in
     let i = c.loop-number.number-index in
     elim c.match-take_table.branch [
-      | in-Some+in_ok-push w ↦ list_step row c.loop-number.tables.items c.take_table.new.tables.items c.loop-number.gone.items c.match-take_table.gone.items numbers i rows w.in-Some.table c.loop-number-test.true
-          w.in-Some.ensures.taken (ap (λ gone. gone.items) w.gone-is ∙ w.in_ok-push.ensures.items) (c.loop-number.invariant rows each are)
-      | in_default w ↦ absurd (list_none row c.loop-number.tables.items c.loop-number.gone.items numbers i rows c.loop-number-test.true w.in_default.ensures.none (c.loop-number.invariant rows each are))
+      | in-Some+in_ok-push w ↦ record {
+        taking = λ rows each are. list_step row c.loop-number.tables.items c.take_table.new.tables.items c.loop-number.gone.items c.match-take_table.gone.items numbers i rows w.in-Some.table
+            c.loop-number-test.true w.in-Some.ensures.taken (ap (λ gone. gone.items) w.gone-is ∙ w.in_ok-push.ensures.items) (c.loop-number.invariant.taking rows each are);
+        contents = top_step row g.T.HasRow.holds (get_or numbers i 0) c.args.tables.now.items c.loop-number.tables.items c.take_table.new.tables.items c.loop-number.gone.items
+            c.match-take_table.gone.items w.in-Some.table w.in-Some.ensures.taken (ap (λ gone. gone.items) w.gone-is ∙ w.in_ok-push.ensures.items) c.loop-number.invariant.contents;
+      }
+      | in_default w ↦ record {
+        taking = λ rows each are. absurd (list_none row c.loop-number.tables.items c.loop-number.gone.items numbers i rows c.loop-number-test.true w.in_default.ensures.none
+            (c.loop-number.invariant.taking rows each are));
+        contents = λ content each.
+            let P = HoldsContent row g.T.HasRow.holds content in
+            let was = c.loop-number.invariant.contents content each in
+            (subst (AllByRecursion P) (sym w.in_default.ensures.same) was.0, subst (λ gone. AllByRecursion P gone.items) (sym w.gone-is) was.1);
+      }
     ]
 
-pub returns : goal.returns
-returns g c = λ rows each are.
+pub returns-clause-taken : goal.returns-clause-taken
+returns-clause-taken g c = λ rows each are.
     taking_done g.T.HasRow.the_row (AreRowsOf g.T.HasRow.the_row c.loop-number.tables.items) c.loop-number.gone.items c.args.numbers.now c.loop-number.number-index rows c.loop-number-test.false
-    (c.loop-number.invariant rows each are)
+    (c.loop-number.invariant.taking rows each are)
