@@ -1,5 +1,5 @@
 -- Where a state stands after a call.
-use Rattle.std.proofs.Common.{◌≡◌, ℕ, suc, ◌+◌, ◌-◌, ◌<◌, ◌≤◌, true, false, IsTrue, List, [], ◌∷◌, ◌++◌, length, sym, ap, ◌∙◌, subst, arith, inl, inr, append_assoc}
+use Rattle.std.proofs.Common.{◌≡◌, ℕ, ◌+◌, ◌-◌, ◌<◌, ◌≤◌, true, false, IsTrue, [], ◌∷◌, ◌++◌, sym, ap, ◌∙◌, subst, arith, inl, inr, append_assoc}
 use Rattle.std.proofs.lemmas.List.{append-nil}
 use Rattle.std.specs.List.{AllByRecursion}
 use Rattle.peb_base.specs.declared.op.Op.{Op}
@@ -8,23 +8,19 @@ use Rattle.peb_base.specs.declared.profile.Profile.{Profile}
 use Rattle.peb_base.specs.Batches.{Batches, last_number, are_in_order}
 use Rattle.peb_base.specs.Map.{apply_change, map_at}
 use Rattle.peb_base.specs.MapLaws.{last_of_push, in_order_push, map_after_one}
-use Rattle.disk_model.specs.declared.journal_file.JournalFile.TheVariants.{Log}
-use Rattle.disk_model.specs.Images.{Image, Elapses, Follows, In, Rose}
-use Rattle.record_log.specs.Crash.{Creates}
+use Rattle.disk_model.specs.Images.{Image, Elapses, Rose}
 use Rattle.record_log.specs.declared.log_file.LogFile.{LogFile}
-use Rattle.record_log.specs.declared.header.Header.{Header}
 use Rattle.record_log.specs.Groups.{record_bytes}
 use Rattle.record_log.specs.State.{log_file, log_place, log_tail}
 use Rattle.record_log.specs.Ready.{ready_with}
 use Rattle.flsm_core.specs.declared.state.State.{State}
 use Rattle.disk_model.specs.declared.journal.Journal.{Ghosts}
-use Rattle.flsm_core.specs.Logs.{Held, IsBatchIn, Stands, record_of}
-use Rattle.flsm_core.specs.Opening.{HasRead}
+use Rattle.store_layout.specs.Logs.{IsBatchIn, Stands, record_of}
 use Rattle.flsm_core.specs.Place.{Place, Start, all_of, opened, next_number, with_batch, all_settled, halted}
-use Rattle.flsm_core.specs.Standing.{IsFront, Leaves, Waits, Rests, IsAt}
-use Rattle.flsm_core.proofs.Orders.{front_refl, front_more, front_trans}
-use Rattle.flsm_core.proofs.Spelled.{each-append, waiting-push}
-use Rattle.flsm_core.proofs.Images.{ClosesAny, HasClosed, close_leaves, close_rests, rests_leaves, HasCreated, create_leaves, create_rests}
+use Rattle.store_layout.specs.Fronts.{IsFront, front_refl, front_more, front_trans}
+use Rattle.flsm_core.specs.Standing.{Leaves, Waits, Rests, IsAt}
+use Rattle.store_layout.specs.SpelledLaws.{each-append, waiting-push}
+use Rattle.flsm_core.proofs.Images.{ClosesAny, HasClosed, close_leaves, close_rests, rests_leaves}
 
 leaves_lower : (profile : Profile) (low least all : Batches) (image : Image) → IsFront low least → Leaves profile least all image → Leaves profile low all image
 leaves_lower profile low least all image front leaves = record {
@@ -199,45 +195,28 @@ during_close d old new p fine is told honest any image left = close_leaves d old
 
 -- ---- an opening
 
+leaves_all : (profile : Profile) (batches : Batches) (image : Image) → Stands profile batches image → Leaves profile batches (batches ++ []) image
+leaves_all profile batches image stands = record { batches = batches; enough = front_refl batches; within = front_more batches []; stands = stands }
+
 -- what an opening has made
-pub record HasOpened {J : Type 0} (new : State J) (opening : ℕ) (batches : Batches) : Type 0 where
-  pub session : new.session ≡ opening
+pub record HasOpened {J : Type 0} (new : State J) (batches : Batches) : Type 0 where
   pub ordered : are_in_order batches ≡ true
   pub last : new.last ≡ last_number batches
   pub current : new.current ≡ map_at batches (last_number batches)
   pub stopped : new.stopped ≡ false
   pub tail : log_tail new.log ≡ []
 
-leaves_all : (profile : Profile) (batches : Batches) (image : Image) → Stands profile batches image → Leaves profile batches (batches ++ []) image
-leaves_all profile batches image stands = record { batches = batches; enough = front_refl batches; within = front_more batches []; stands = stands }
-
--- while the next log was created, and before, a crash left the base
-pub begun_leaves : {D : Type 0} (d : Ghosts D) (mid new : D) (start : Start) (k : ℕ) (header : Header) (logs : List Held)
-    → k ≡ suc (length logs) → header.profile ≡ start.profile → HasRead d mid start logs → IsTrue d.tells → IsTrue start.honest
-    → Elapses (d.moment mid) (d.moment new) (d.left_since mid) (d.left_since new)
-    → Follows (In (Log k) (Creates (Log k) header)) (d.may_leave mid) (d.left_since new (d.moment mid))
-    → (image : Image) → d.left_since new start.moment image → Stands start.profile start.base image
-begun_leaves d mid new start k header logs at own has told sure time images image left = elim (time.nothing_else start.moment image has.began left) [
-  | inl before ↦ has.past told sure image before
-  | inr now ↦ create_leaves d mid new start k header logs image at own (has.quiet told) sure images now
-]
-
--- after an opening the state stands at its beginning
-pub at_opened : {D : Type 0} (d : Ghosts D) (mid : D) (new : State D) (start : Start) (k opening : ℕ) (header : Header) (logs : List Held)
-    → k ≡ suc (length logs) → header.profile ≡ start.profile → header.session ≡ opening → HasOpened new opening start.base
-    → Elapses (d.moment mid) (d.moment new.journal) (d.left_since mid) (d.left_since new.journal) → d.faults mid ≤ d.faults new.journal
-    → HasRead d mid start logs → (IsTrue d.tells → HasCreated d mid new.journal k header new.log)
-    → IsAt d new (opened start)
-at_opened {D} d mid new start k opening header logs at own owned did time later has call =
+-- a store of what an opening has made ready stands where that began
+pub at_begun : {D : Type 0} (d : Ghosts D) (new : State D) (start : Start) → start.moment ≤ d.moment new.journal → start.faults ≤ d.faults new.journal → HasOpened new start.base
+    → (IsTrue d.tells → IsTrue start.honest → (image : Image) → d.left_since new.journal start.moment image → Stands start.profile start.base image)
+    → (IsTrue d.tells → Rests d new.journal new.log new.session (opened start)) → IsAt d new (opened start)
+at_begun d new start began counted did past rests =
     let p = opened start in
     let all : all_of p ≡ start.base = append-nil start.base in
     let ordered : are_in_order (all_of p) ≡ true = ap are_in_order all ∙ did.ordered in
-    let rests : (told : IsTrue d.tells) → Rests d new.journal new.log new.session p = λ told.
-    subst (λ (s : ℕ). Rests d new.journal new.log s p) (sym did.session)
-    (create_rests d mid new.journal start k opening header new.log logs at own owned (has.quiet told) (call told)) in
     record {
-      began = omega (arith, has.began, time.later);
-      counted = omega (arith, has.counted, later);
+      began = began;
+      counted = counted;
       grown = front_refl start.base;
       ordered = ordered;
       last = did.last ∙ sym (ap last_number all);
@@ -245,8 +224,7 @@ at_opened {D} d mid new start k opening header logs at own owned did time later 
       stopped = did.stopped;
       halted = λ over. absurd (cc);
       waits = λ fine. record { tail = did.tail; each = tt };
-      since = λ told sure image left. leaves_all start.profile start.base image
-          (begun_leaves d mid new.journal start k header logs at own has told sure time (call told).images image left);
+      since = λ told sure image left. leaves_all start.profile start.base image (past told sure image left);
       now = λ told sure image left. rests_leaves d new.journal new.log new.session p image (rests told) ordered sure left;
       rests = λ told fine. rests told;
     }

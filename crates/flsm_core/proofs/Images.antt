@@ -1,61 +1,24 @@
 -- What a crash leaves of the logs, in the calls on them.
-use Rattle.std.proofs.Common.{◌≡◌, ◌≢◌, ◌⊎◌, ℕ, suc, ◌<◌, true, IsTrue, List, [], ◌∷◌, ◌++◌, map, length, Option, None, refl, sym, ap, ◌∙◌, subst, arith, inl, inr, length-append}
-use Rattle.std.proofs.lemmas.Bool.{cases_order}
-use Rattle.peb_base.specs.declared.profile.Profile.{Profile}
-use Rattle.peb_base.specs.Batches.{Batches, are_in_order}
+use Rattle.std.proofs.Common.{◌≡◌, ◌≢◌, ℕ, suc, ◌<◌, true, IsTrue, List, [], ◌∷◌, ◌++◌, map, length, None, refl, sym, ◌∙◌, subst, arith, inl, inr, length-append}
+use Rattle.peb_base.specs.Batches.{are_in_order}
 use Rattle.disk_model.specs.declared.journal_file.JournalFile.{JournalFile}
 use Rattle.disk_model.specs.declared.journal_file.JournalFile.TheVariants.{Log}
 use Rattle.disk_model.specs.Images.{Image, In, Follows, Keeps}
 use Rattle.record_log.specs.declared.header.Header.{Header}
 use Rattle.record_log.specs.declared.log_file.LogFile.{LogFile}
-use Rattle.record_log.specs.Log.{IsLog, IsUnfinished}
-use Rattle.record_log.specs.Crash.{Creates}
+use Rattle.record_log.specs.Log.{IsLog}
 use Rattle.record_log.specs.Groups.{records_bytes, with_group}
 use Rattle.record_log.specs.State.{log_file, log_tail}
 use Rattle.record_log.specs.Ready.{IsReady, IsBeforeOrAfter}
 use Rattle.disk_model.specs.declared.journal.Journal.{Ghosts}
 use Rattle.std.specs.List.{AllByRecursion}
-use Rattle.flsm_core.specs.Logs.{Held, AreOf, IsBatchIn, HoldsLogs, SpellsAll, Stands, record_of}
-use Rattle.flsm_core.specs.Opening.{Quiet}
-use Rattle.flsm_core.specs.Place.{Place, Start, all_of, all_settled, opened}
+use Rattle.store_layout.specs.Logs.{Held, IsBatchIn, HoldsLogs, record_of}
+use Rattle.flsm_core.specs.Place.{Place, all_of, all_settled}
 use Rattle.flsm_core.specs.Standing.{Leaves, Waits, Rests}
-use Rattle.flsm_core.proofs.Orders.{front_in_order, front_refl, front_more}
-use Rattle.flsm_core.proofs.Spelled.{closed, fresh, spells_group, spells_one_more}
-use Rattle.flsm_core.proofs.Held.{of_push, of_last, logs_differ, below, above, holds_same, holds_changed, holds_next, holds_begun, holds_end}
-
-cases_eq : (m n : ℕ) → (m ≡ n) ⊎ (m ≢ n)
-cases_eq m n = elim (cases_order m n) [ inl same ↦ inl same | inr more ↦ elim more [ inl less ↦ inr (below m n less) | inr greater ↦ inr (above m n greater) ] ]
-
--- two images have the same logs
-abbrev pub Agree : Image → Image → Type 0
-Agree a b = (m : ℕ) → 0 < m → a (Log m) ≡ b (Log m)
-
--- they have the same logs but for one
-abbrev pub AgreeBut : ℕ → Image → Image → Type 0
-AgreeBut k a b = (m : ℕ) → 0 < m → m ≢ k → a (Log m) ≡ b (Log m)
-
--- the logs stand for these batches
-pub stands_of : (profile : Profile) (batches : Batches) (logs : List Held) (image : Image) → HoldsLogs 1 logs image → AreOf profile logs → SpellsAll logs batches → are_in_order batches ≡ true
-    → ((m : ℕ) → suc (length logs) < m → image (Log m) ≡ None) → Stands profile batches image
-stands_of profile batches logs image holds same spells ordered none = record {
-  logs = logs;
-  reads = record { holds = holds; same = same; spelled = spells; ordered = ordered };
-  none_above = none;
-}
-
--- an image that a step of one log leaves, where before it a crash left the logs as read
-pub record Steps {D : Type 0} (d : Ghosts D) (old : D) (k : ℕ) (R : Option (List ℕ) → Option (List ℕ) → Type 0) (image : Image) : Type 0 where
-  pub here : R (d.seen old (Log k)) (image (Log k))
-  pub elsewhere : AgreeBut k image (d.seen old)
-
-pub stepped : {D : Type 0} (d : Ghosts D) (old : D) (k : ℕ) (R : Option (List ℕ) → Option (List ℕ) → Type 0) (since : Image → Type 0) → 0 < k
-    → ((image : Image) → d.may_leave old image → Agree image (d.seen old)) → Follows (In (Log k) R) (d.may_leave old) since
-    → (image : Image) → since image → Steps d old k R image
-stepped d old k R since some only follows image left =
-    let from = follows image left in record {
-      here = subst (λ b. R b (image (Log k))) (only from.0 from.1 k some) from.2.here;
-      elsewhere = λ m is differ. from.2.elsewhere (Log m) (logs_differ m k differ) ∙ only from.0 from.1 m is;
-    }
+use Rattle.store_layout.specs.Fronts.{front_in_order, front_refl, front_more}
+use Rattle.store_layout.specs.SpelledLaws.{closed, spells_group}
+use Rattle.store_layout.specs.LogLaws.{of_last, logs_differ, above, holds_same, holds_changed}
+use Rattle.store_layout.specs.ImageSteps.{AgreeBut, stands_of, stepped, only_on}
 
 -- ---- closing a group
 
@@ -111,19 +74,6 @@ pub record HasClosed {D : Type 0} (d : Ghosts D) (old new : D) (log log' : LogFi
   pub tail : log_tail log' ≡ []
   pub elsewhere : (other : JournalFile) → other ≢ log_file log → d.seen new other ≡ d.seen old other
 
--- calls on one log leave the others as read, in each image, and that log as it is read after them
-pub only_on : {D : Type 0} (d : Ghosts D) (old new : D) (k : ℕ) (R : Option (List ℕ) → Option (List ℕ) → Type 0) → 0 < k
-    → ((image : Image) → d.may_leave old image → Agree image (d.seen old)) → Follows (In (Log k) R) (d.may_leave old) (d.left_since new (d.moment old))
-    → ((image : Image) → d.may_leave new image → d.left_since new (d.moment old) image)
-    → Keeps (Log k) (d.seen new (Log k)) (d.may_leave new) → AgreeBut k (d.seen new) (d.seen old)
-    → (image : Image) → d.may_leave new image → Agree image (d.seen new)
-only_on d old new k R some only follows counts kept elsewhere image left m is =
-    let step = stepped d old k R (d.left_since new (d.moment old)) some only follows image (counts image left) in
-    elim (cases_eq m k) [
-      | inl same ↦ subst (λ (n : ℕ). image (Log n) ≡ d.seen new (Log n)) (sym same) (kept image left)
-      | inr differ ↦ step.elsewhere m is differ ∙ sym (elsewhere m is differ)
-    ]
-
 -- after it the journal has all batches
 pub close_rests : {D : Type 0} (d : Ghosts D) (old new : D) (log log' : LogFile) (session : ℕ) (p : Place)
     → Rests d old log session p → Waits log session p → HasClosed d old new log log' → Rests d new log' session (all_settled p)
@@ -167,55 +117,3 @@ rests_leaves d journal log session p image rests ordered honest left =
     }
 
 -- ---- creating the next log
-
--- what an Ok of creating a log says
-pub record HasCreated {D : Type 0} (d : Ghosts D) (old new : D) (k : ℕ) (header : Header) (log : LogFile) : Type 0 where
-  pub images : Follows (In (Log k) (Creates (Log k) header)) (d.may_leave old) (d.left_since new (d.moment old))
-  pub counts : (image : Image) → d.may_leave new image → d.left_since new (d.moment old) image
-  pub ready : IsReady d.tells d.seen d.may_leave new log header []
-  pub file : log_file log ≡ Log k
-  pub tail : log_tail log ≡ []
-  pub elsewhere : (other : JournalFile) → other ≢ Log k → d.seen new other ≡ d.seen old other
-
--- while the next log is created, a crash leaves the batches
-pub create_leaves : {D : Type 0} (d : Ghosts D) (old new : D) (start : Start) (k : ℕ) (header : Header) (logs : List Held) (image : Image)
-    → k ≡ suc (length logs) → header.profile ≡ start.profile → Quiet d old start logs → IsTrue start.honest → Follows (In (Log k) (Creates (Log k) header)) (d.may_leave old) (d.left_since new (d.moment old))
-    → d.left_since new (d.moment old) image → Stands start.profile start.base image
-create_leaves d old new start k header logs image at own quiet sure follows left =
-    let step = stepped d old k (Creates (Log k) header) (d.left_since new (d.moment old)) (omega (arith, at)) (quiet.only sure) follows image left in
-    let begun : IsUnfinished (image (Log k)) → Stands start.profile start.base image = λ unfinished.
-    stands_of start.profile start.base logs image (holds_begun 1 k logs (d.seen old) image (omega (arith, at)) (λ m le. step.elsewhere m (omega (arith, le))) unfinished quiet.reads.holds) quiet.reads.same quiet.reads.spelled quiet.reads.ordered
-    (λ m lt. step.elsewhere m (omega (arith, lt)) (above m k (omega (arith, at, lt))) ∙ quiet.none_above sure m lt) in
-    elim step.here [
-      | inl stays ↦ begun (subst IsUnfinished (sym stays) (holds_end 1 k logs (d.seen old) (omega (arith, at)) quiet.reads.holds))
-      | inr more ↦ elim more [
-        | inl unfinished ↦ begun unfinished
-        | inr made ↦ stands_of start.profile start.base (logs ++ fresh header ∷ []) image
-            (holds_next 1 k logs (fresh header) (d.seen old) image (omega (arith, at)) (λ m le. step.elsewhere m (omega (arith, le))) (quiet.none_above sure (suc k) (omega (arith, at))) made quiet.reads.holds)
-            (of_push start.profile logs (fresh header) quiet.reads.same own)
-            (spells_one_more logs header start.base quiet.reads.spelled) quiet.reads.ordered
-            (λ m lt. let size = length-append logs (fresh header ∷ []) in
-            step.elsewhere m (omega (arith, lt)) (above m k (omega (arith, at, lt, size))) ∙ quiet.none_above sure m (omega (arith, at, lt, size)))
-      ]
-    ]
-
--- then the state is at rest
-pub create_rests : {D : Type 0} (d : Ghosts D) (old new : D) (start : Start) (k session : ℕ) (header : Header) (log : LogFile) (logs : List Held)
-    → k ≡ suc (length logs) → header.profile ≡ start.profile → header.session ≡ session → Quiet d old start logs → HasCreated d old new k header log
-    → Rests d new log session (opened start)
-create_rests d old new start k session header log logs at own owned quiet call =
-    let same : AgreeBut k (d.seen new) (d.seen old) = λ m is differ. call.elsewhere (Log m) (logs_differ m k differ) in
-    let made : IsLog (Log k) header [] (d.seen new (Log k)) = subst (λ (f : JournalFile). IsLog f header [] (d.seen new f)) call.file call.ready.form in
-    record {
-      logs = logs;
-      current = fresh header;
-      holds = λ sure. holds_next 1 k logs (fresh header) (d.seen old) (d.seen new) (omega (arith, at)) (λ m le. same m (omega (arith, le))) (quiet.none_above sure (suc k) (omega (arith, at))) made quiet.reads.holds;
-      same = of_push start.profile logs (fresh header) quiet.reads.same own;
-      spelled = spells_one_more logs header start.base quiet.reads.spelled;
-      none_above = λ sure m lt. same m (omega (arith, lt)) (above m k (omega (arith, at, lt))) ∙ quiet.none_above sure m (omega (arith, lt));
-      file = call.file ∙ ap Log at;
-      owned = owned;
-      ready = call.ready;
-      only = λ sure. only_on d old new k (Creates (Log k) header) (omega (arith, at)) (quiet.only sure) call.images call.counts
-          (subst (λ (f : JournalFile). Keeps f (d.seen new f) (d.may_leave new)) call.file call.ready.kept) same;
-    }

@@ -1,11 +1,3 @@
 pub mod PairLemmas
-pub mod Orders
-pub mod Spelled
-pub mod Held
 pub mod Images
 pub mod At
-pub mod Replays
-pub mod Founds
-pub mod Openings
-pub mod Ranges
-pub mod Touching

@@ -9,7 +9,7 @@ use Rattle.disk_model.specs.Told.{JournalTold}
 use Rattle.peb_base.specs.declared.limit_kind.LimitKind.TheVariants as kinds
 use Rattle.peb_base.specs.Batches.{Batches, last_number}
 use Rattle.record_log.specs.Groups.{records_bytes}
-use Rattle.flsm_core.specs.Logs.{record_of}
+use Rattle.store_layout.specs.Logs.{record_of}
 use Rattle.flsm_core.specs.declared.commit_fault.CommitFault.{CommitFault}
 use Rattle.flsm_core.specs.declared.commit_fault.CommitFault.TheVariants as commits
 use Rattle.flsm_core.specs.declared.sync_fault.SyncFault.{SyncFault}

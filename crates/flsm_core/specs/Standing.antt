@@ -13,12 +13,9 @@ use Rattle.record_log.specs.State.{log_file, log_tail}
 use Rattle.record_log.specs.Ready.{IsReady}
 use Rattle.flsm_core.specs.declared.state.State.{State}
 use Rattle.disk_model.specs.declared.journal.Journal.{Ghosts}
-use Rattle.flsm_core.specs.Logs.{Held, AreOf, HoldsLogs, SpellsAll, IsBatchIn, Stands, record_of}
+use Rattle.store_layout.specs.Logs.{Held, AreOf, HoldsLogs, SpellsAll, IsBatchIn, Stands, record_of}
 use Rattle.flsm_core.specs.Place.{Place, all_of}
-
--- the first batches of these
-abbrev pub IsFront : Batches → Batches → Type 0
-IsFront front all = (rest : Batches) × (all ≡ front ++ rest)
+use Rattle.store_layout.specs.Fronts.{IsFront}
 
 -- the image stands for first batches of these, at least for those that must be there
 pub record Leaves (profile : Profile) (least all : Batches) (image : Image) : Type 0 where

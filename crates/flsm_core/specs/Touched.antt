@@ -1,11 +1,9 @@
 -- Which file of a journal calls have changed.
-use Rattle.std.specs.Prelude.{◌≡◌, ◌≢◌, ◌⊎◌, ℕ, ◌<◌, ◌≤◌, Bool, IsTrue}
-use Rattle.std.proofs.Common.{inl, inr, refl, sym, ap, ◌∙◌, subst, arith}
+use Rattle.std.specs.Prelude.{◌≡◌, ◌≢◌, ◌⊎◌, ℕ, ◌≤◌, Bool, IsTrue, List, Option}
+use Rattle.std.proofs.Common.{inl, inr, refl, ap, ◌∙◌, subst, arith}
 use Rattle.disk_model.specs.declared.journal_file.JournalFile.{JournalFile}
-use Rattle.disk_model.specs.Images.{Image}
+use Rattle.disk_model.specs.Images.{Image, Elapses, Follows, In}
 use Rattle.disk_model.specs.Told.{JournalTold, TellsTheSame}
-use Rattle.disk_model.specs.declared.journal_file.JournalFile.TheVariants.{Log}
-use Rattle.record_log.specs.Log.{IsUnfinished}
 
 -- the images are the same but for one file
 abbrev pub AreSameBut : JournalFile → Image → Image → Type 0
@@ -55,27 +53,39 @@ touched_on tells file a b c one two = record {
       (one.keeps t image le left);
 }
 
--- the image has the log of this number, created to its end
-abbrev pub IsFinished : ℕ → Image → Type 0
-IsFinished n image = IsUnfinished (image (Log n)) → ⊥
+-- what is left now counts since each time
+abbrev pub Counts : JournalTold → Type 0
+Counts told = (t : ℕ) (image : Image) → t ≤ told.moment → told.may_leave image → told.left_since t image
 
--- calls changed no file but this one, the first log that wasn't there: each one before it was
-pub record HasTouchedNextLog (tells : Bool) (file : JournalFile)
-    (old new : JournalTold) : Type 0 where
-  pub number : ℕ
-  pub some : 1 ≤ number
-  pub named : file ≡ Log number
-  pub absent : IsTrue tells → IsUnfinished (old.seen (Log number))
-  pub first : IsTrue tells → (m : ℕ) → 1 ≤ m → m < number → IsFinished m old.seen
-  pub touched : HasTouched tells file old new
+-- each image that the call leaves is one from before but for the file
+abbrev pub LeavesBut : JournalFile → (Image → Type 0) → (Image → Type 0) → Type 0
+LeavesBut file before after = (image : Image) → after image → (old : Image) × before old × AreSameBut file old image
 
--- a log that was finished isn't the one
-pub next_log_other : (tells : Bool) (file : JournalFile) (old new : JournalTold)
-    → HasTouchedNextLog tells file old new → IsTrue tells → (n : ℕ) → IsFinished n old.seen
-    → Log n ≢ file
-next_log_other tells file old new next told n finished same =
-    finished (subst (λ (f : JournalFile). IsUnfinished (old.seen f)) (sym (same ∙ next.named))
-    (next.absent told))
+-- a step in one file leaves the others
+pub leaves_but : (file : JournalFile) (R : Option (List ℕ) → Option (List ℕ) → Type 0) (before after : Image → Type 0) → Follows (In file R) before after → LeavesBut file before after
+leaves_but file R before after follows = λ image left. let from = follows image left in (from.0, from.1, from.2.elsewhere)
+
+-- what was left since a time was left before the call, or since any time between
+since_step : (old new : JournalTold) → Elapses old.moment new.moment old.left_since new.left_since → (t s : ℕ) (image : Image) → t ≤ s → s ≤ old.moment → new.left_since t image
+    → old.left_since t image ⊎ new.left_since s image
+since_step old new time t s image low le left = elim (time.nothing_else t image (omega (arith, low, le)) left) [
+  | inl past ↦ inl past
+  | inr during ↦ inr (time.counts s image le during)
+]
+
+-- one call that changed one file
+pub touched_step : (tells : Bool) (file : JournalFile) (old new : JournalTold) → Counts old → Elapses old.moment new.moment old.left_since new.left_since
+    → AreSameBut file old.seen new.seen → (IsTrue tells → LeavesBut file old.may_leave (new.left_since old.moment)) → HasTouched tells file old new
+touched_step tells file old new counts time reads follows = record {
+  later = time.later;
+  reads = reads;
+  images = λ told t image le left. elim (time.nothing_else t image le left) [
+    | inl past ↦ (image, past, λ other differ. refl)
+    | inr since ↦ let from = follows told image since in (from.0, counts t from.0 le from.1, from.2)
+  ];
+  since = since_step old new time;
+  keeps = time.keeps;
+}
 
 -- what tells the same has changed no file
 pub touched_same : (tells : Bool) (file : JournalFile) (a b : JournalTold) → TellsTheSame a b
@@ -86,22 +96,6 @@ touched_same tells file a b same = record {
   images = λ told t image le left. (image, (same.past t image).0 left, λ other differ. refl);
   since = λ t s image low le left. inl ((same.past t image).0 left);
   keeps = λ t image le left. (same.past t image).1 left;
-}
-
--- a log that was begun stays the one that was changed
-pub next_log_on : (tells : Bool) (file : JournalFile) (a b c d : JournalTold) → TellsTheSame a b
-    → HasTouchedNextLog tells file b c → HasTouched tells file c d
-    → HasTouchedNextLog tells file a d
-next_log_on tells file a b c d first next last = record {
-  number = next.number;
-  some = next.some;
-  named = next.named;
-  absent = λ told. subst (λ (i : Image). IsUnfinished (i (Log next.number))) first.bytes
-      (next.absent told);
-  first = λ told m from below none. next.first told m from below
-      (subst (λ (i : Image). IsUnfinished (i (Log m))) (sym first.bytes) none);
-  touched = touched_on tells file a b d (touched_same tells file a b first)
-      (touched_on tells file b c d next.touched last);
 }
 
 -- calls led from the one place of a log to the other, and changed no file but the log's

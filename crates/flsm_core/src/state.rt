@@ -6,6 +6,7 @@ ghost use Rattle.flsm_core.specs.Place.{put_op};
 
 use crate::commit_fault::CommitFault;
 use crate::current_map::CurrentMap;
+use crate::parts::Parts;
 use crate::store::Store;
 use crate::sync_fault::SyncFault;
 use disk_model::Journal;
@@ -22,13 +23,13 @@ const LONGEST_TAIL: u64 = 1 << 31;
 /// An open store over the logs of a journal, with the ordered map of all batches in memory.
 #[derive(Drop)]
 pub struct State<J> {
-    pub(crate) alloc: Global,
-    pub(crate) journal: J,
-    pub(crate) log: LogFile,
-    pub(crate) current: CurrentMap,
-    pub(crate) session: u32,
-    pub(crate) last: Number,
-    pub(crate) stopped: bool,
+    alloc: Global,
+    journal: J,
+    log: LogFile,
+    current: CurrentMap,
+    session: u32,
+    last: Number,
+    stopped: bool,
     ghost begun: { 1 ≤ session },
     ghost possible: { session ≤ 8388607 },
     ghost within: { last < session * 2 ^ 40 + 2 ^ 40 },
@@ -83,9 +84,39 @@ fn apply_one(current: &mut CurrentMap, batch: Batch) -> Result<(), Memory>
 impl<J: Journal> State<J> {
     ghost use Rattle.std.specs.Prelude.{IsTrue};
     ghost use Rattle.disk_model.specs.Told.{told_by};
-    ghost use Rattle.flsm_core.specs.Place.{Place};
+    ghost use Rattle.record_log.specs.State.{log_file};
+    ghost use Rattle.flsm_core.specs.Begun.{IsBegun};
+    ghost use Rattle.flsm_core.specs.Place.{Place, Start, opened};
     ghost use Rattle.flsm_core.specs.Standing.{IsAt, IsLeftBy};
-    ghost use Rattle.flsm_core.specs.State.{state_journal};
+    ghost use Rattle.flsm_core.specs.State.{state_session, state_journal, state_file};
+
+    /// A store of what an opening has made ready. It stands where the opening began, for each base
+    /// that the parts have.
+    pub fn new(parts: Parts<J>) -> State<J>
+        ensures stands { (start : Start) → IsBegun J.Journal parts start
+            → IsAt J.Journal result (opened start) }
+        ensures session { state_session result ≡ parts.session }
+        ensures journal { state_journal result ≡ parts.journal }
+        ensures file { state_file result ≡ log_file parts.log }
+    {
+        let Parts {
+            alloc,
+            journal,
+            log,
+            current,
+            session,
+            last,
+        } = parts;
+        State {
+            alloc,
+            journal,
+            log,
+            current,
+            session,
+            last,
+            stopped: false,
+        }
+    }
 
     /// Gives the journal up. What waits is lost.
     pub fn close(self) -> J

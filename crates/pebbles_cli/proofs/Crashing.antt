@@ -5,10 +5,10 @@ use Rattle.peb_base.specs.declared.profile.Profile.TheVariants.{Small}
 use Rattle.peb_base.specs.Batches.{Batches}
 use Rattle.disk_model.specs.declared.journal_file.JournalFile.TheVariants.{Log}
 use Rattle.disk_model.specs.Images.{Image}
-use Rattle.flsm_core.specs.Logs.{Stands}
+use Rattle.store_layout.specs.Logs.{Stands}
 use Rattle.flsm_core.specs.Place.{Start, all_of}
 use Rattle.flsm_core.specs.Standing.{Leaves}
-use Rattle.flsm_core.specs.Touched.{next_log_other}
+use Rattle.recovery.specs.NextLog.{next_log_other}
 use Rattle.pebbles_cli.specs.Crashes.{LeavesRanges, FinishedLogsStay}
 use Rattle.pebbles_cli.specs.Outside.{Outside}
 

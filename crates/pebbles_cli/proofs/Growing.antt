@@ -16,7 +16,7 @@ use Rattle.script.specs.declared.cause.Cause.{Cause}
 use Rattle.flsm_core.specs.declared.sync_fault.SyncFault.{SyncFault}
 use Rattle.flsm_core.specs.declared.sync_fault.SyncFault.TheVariants as syncs
 use Rattle.flsm_core.specs.Place.{Place, all_of, put_op, next_number, with_batch, all_settled, halted, after_sync}
-use Rattle.flsm_core.specs.Standing.{IsFront}
+use Rattle.store_layout.specs.Fronts.{IsFront}
 use Rattle.pebbles_cli.specs.declared.write_fault.WriteFault.{WriteFault}
 use Rattle.pebbles_cli.specs.declared.write_fault.WriteFault.TheVariants as writes
 use Rattle.pebbles_cli.specs.Writes.{Writes, after_write}

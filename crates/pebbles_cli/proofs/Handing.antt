@@ -6,14 +6,15 @@ use Rattle.peb_base.specs.Faults.{Rose}
 use Rattle.disk_model.specs.Images.{Image}
 use Rattle.disk_model.specs.SinkNames.{Label, SinkNames, after_client, after_return}
 use Rattle.disk_model.specs.Told.{JournalTold, TablesTold, TellsTheSame, TablesStay}
-use Rattle.flsm_core.specs.declared.open_fault.OpenFault.{OpenFault}
-use Rattle.flsm_core.specs.declared.open_fault.OpenFault.TheVariants as opens
+use Rattle.recovery.specs.declared.open_fault.OpenFault.{OpenFault}
+use Rattle.recovery.specs.declared.open_fault.OpenFault.TheVariants as opens
 use Rattle.flsm_core.specs.Place.{Place, Start, opened, start_at}
-use Rattle.flsm_core.specs.Range.{Range, AreIn, StartsIn}
-use Rattle.flsm_core.specs.Logs.{Held, HoldsLogs, ReadsAs, greatest_session}
+use Rattle.recovery.specs.Range.{Range, AreIn, StartsIn}
+use Rattle.store_layout.specs.Logs.{Held, HoldsLogs, ReadsAs, greatest_session}
 use Rattle.flsm_core.specs.Standing.{IsLeftBy}
-use Rattle.flsm_core.specs.Opening.{OpensOn, OpenCause, HasWatched}
-use Rattle.flsm_core.specs.Touched.{next_log_on, touched_same}
+use Rattle.recovery.specs.Opening.{OpensOn, OpenCause, HasWatched}
+use Rattle.recovery.specs.NextLog.{next_log_on}
+use Rattle.flsm_core.specs.Touched.{touched_same}
 use Rattle.script.specs.declared.cause.Cause.{Cause}
 use Rattle.script.specs.declared.cause.Cause.TheVariants as causes
 use Rattle.pebbles_cli.specs.Causes.{RefusalCause, opening_cause}

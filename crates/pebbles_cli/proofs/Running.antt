@@ -8,14 +8,14 @@ use Rattle.peb_base.specs.Batches.{last_number}
 use Rattle.peb_base.specs.Faults.{Rose}
 use Rattle.disk_model.specs.declared.failed.Failed.{Failed}
 use Rattle.disk_model.specs.Bytes.{Takes, IsFresh}
-use Rattle.disk_model.specs.Told.{TablesStay}
+use Rattle.disk_model.specs.Told.{TablesStay, JournalTold}
 use Rattle.script.specs.declared.cause.Cause.{Cause}
 use Rattle.script.specs.declared.cause.Cause.TheVariants as causes
 use Rattle.script.specs.Report.{report_text}
-use Rattle.disk_model.specs.Told.{JournalTold}
-use Rattle.flsm_core.specs.Range.{Range, AreIn, StartsIn}
+use Rattle.recovery.specs.Range.{Range, AreIn, StartsIn}
 use Rattle.flsm_core.specs.Standing.{Leaves, IsLeftBy}
-use Rattle.flsm_core.specs.Touched.{HasTouched, HasTouchedNextLog, HasTouchedLog, next_log_on, touched_on}
+use Rattle.flsm_core.specs.Touched.{HasTouched, HasTouchedLog, touched_on}
+use Rattle.recovery.specs.NextLog.{HasTouchedNextLog, next_log_on}
 use Rattle.pebbles_cli.proofs.Handing.{tells_itself}
 use Rattle.disk_model.specs.declared.journal_file.JournalFile.{JournalFile}
 use Rattle.flsm_core.specs.declared.sync_fault.SyncFault.{SyncFault}
@@ -25,8 +25,8 @@ use Rattle.pebbles_cli.specs.declared.served.Served.{Served}
 use Rattle.peb_base.specs.declared.limit_kind.LimitKind.TheVariants as kinds
 use Rattle.disk_model.specs.Directories.{after_choice, after_opening}
 use Rattle.script.specs.declared.command.Command.{Command}
-use Rattle.flsm_core.specs.declared.open_fault.OpenFault.{OpenFault}
-use Rattle.flsm_core.specs.declared.open_fault.OpenFault.TheVariants as opens
+use Rattle.recovery.specs.declared.open_fault.OpenFault.{OpenFault}
+use Rattle.recovery.specs.declared.open_fault.OpenFault.TheVariants as opens
 use Rattle.pebbles_cli.specs.Read.{IsWithin}
 use Rattle.pebbles_cli.specs.Names.{replies_name}
 use Rattle.pebbles_cli.specs.Causes.{Says, IsBeforeOpening, IsOpeningCause, OpeningCause, opening_cause, IsScript, JournalRose, LineCause, ReportCause, SinkCause, PlayCause, ScriptCause, RefusalCause, sink_cause, end_of}

@@ -10,9 +10,9 @@ use Rattle.script.specs.declared.cause.Cause.TheVariants as causes
 use Rattle.script.specs.declared.why.Why.{Why}
 use Rattle.script.specs.declared.command.Command.{Command}
 use Rattle.script.specs.Script.{script_of}
-use Rattle.flsm_core.specs.declared.open_fault.OpenFault.{OpenFault}
-use Rattle.flsm_core.specs.declared.open_fault.OpenFault.TheVariants as opens
-use Rattle.flsm_core.specs.Opening.{OpenCause}
+use Rattle.recovery.specs.declared.open_fault.OpenFault.{OpenFault}
+use Rattle.recovery.specs.declared.open_fault.OpenFault.TheVariants as opens
+use Rattle.recovery.specs.Opening.{OpenCause}
 use Rattle.pebbles_cli.specs.Outside.{DevicesTold, SinksTold, Outside}
 use Rattle.pebbles_cli.specs.Read.{IsWithin, HasMore}
 

@@ -7,10 +7,10 @@ use Rattle.disk_model.specs.declared.journal_file.JournalFile.TheVariants.{Log}
 use Rattle.disk_model.specs.Images.{Image}
 use Rattle.disk_model.specs.Told.{JournalTold}
 use Rattle.script.specs.declared.cause.Cause.{Cause}
-use Rattle.flsm_core.specs.Opening.{OpensOn}
+use Rattle.recovery.specs.Opening.{OpensOn}
 use Rattle.flsm_core.specs.Place.{Start, start_at, all_of}
-use Rattle.flsm_core.specs.Range.{Range, AreIn}
-use Rattle.flsm_core.specs.Touched.{IsFinished}
+use Rattle.recovery.specs.Range.{Range, AreIn}
+use Rattle.recovery.specs.NextLog.{IsFinished}
 use Rattle.pebbles_cli.specs.Outside.{Outside}
 use Rattle.pebbles_cli.specs.Top.{Asked, Ran, Plays}
 

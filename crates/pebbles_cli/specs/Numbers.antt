@@ -7,7 +7,7 @@ use Rattle.script.specs.declared.cause.Cause.{Cause}
 use Rattle.script.specs.declared.command.Command.{Command}
 use Rattle.script.specs.declared.command.Command.TheVariants as commands
 use Rattle.flsm_core.specs.Place.{Place, all_of, put_op}
-use Rattle.flsm_core.specs.Standing.{IsFront}
+use Rattle.store_layout.specs.Fronts.{IsFront}
 use Rattle.pebbles_cli.specs.declared.write_fault.WriteFault.{WriteFault}
 use Rattle.pebbles_cli.specs.declared.write_fault.WriteFault.TheVariants as writes
 use Rattle.pebbles_cli.specs.Shows.{Has}

@@ -14,10 +14,10 @@ use Rattle.disk_model.specs.Told.{JournalTold, TablesStay}
 use Rattle.disk_model.specs.declared.journal_file.JournalFile.{JournalFile}
 use Rattle.flsm_core.specs.declared.sync_fault.SyncFault.{SyncFault}
 use Rattle.flsm_core.specs.Place.{Start, Place, all_of, opened, start_at, after_sync, Syncs}
-use Rattle.flsm_core.specs.Logs.{Held, HoldsLogs, ReadsAs, Stands, greatest_session}
-use Rattle.flsm_core.specs.Opening.{OpensOn, HasWatched}
-use Rattle.flsm_core.specs.Touched.{HasTouchedNextLog}
-use Rattle.flsm_core.specs.Range.{Range, IsIn, AreIn, StartsIn}
+use Rattle.store_layout.specs.Logs.{Held, HoldsLogs, ReadsAs, Stands, greatest_session}
+use Rattle.recovery.specs.Opening.{OpensOn, HasWatched}
+use Rattle.recovery.specs.NextLog.{HasTouchedNextLog}
+use Rattle.recovery.specs.Range.{Range, IsIn, AreIn, StartsIn}
 use Rattle.flsm_core.specs.Standing.{Leaves, IsLeftBy}
 use Rattle.pebbles_cli.specs.declared.served.Served.{Served}
 use Rattle.pebbles_cli.specs.Causes.{Says, RefusalCause, ReportCause, end_of}

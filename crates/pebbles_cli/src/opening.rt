@@ -5,12 +5,12 @@ ghost use Rattle.disk_model.specs.Directories.{after_choice, after_opening};
 ghost use Rattle.disk_model.specs.Told.{TellsTheSame, TablesStay, told_by};
 ghost use Rattle.disk_model.specs.Images.{Image};
 ghost use Rattle.flsm_core.specs.Place.{Place, Start, opened, start_at};
-ghost use Rattle.flsm_core.specs.Range.{Range, AreIn, StartsIn};
-ghost use Rattle.flsm_core.specs.Logs.{ReadsAs, Stands};
-ghost use Rattle.flsm_core.specs.Opening.{OpensOn, HasWatched};
+ghost use Rattle.recovery.specs.Range.{Range, AreIn, StartsIn};
+ghost use Rattle.store_layout.specs.Logs.{ReadsAs, Stands};
+ghost use Rattle.recovery.specs.Opening.{OpensOn, HasWatched};
 ghost use Rattle.flsm_core.specs.Standing.{IsAt, IsLeftBy};
 ghost use Rattle.flsm_core.specs.State.{state_session, state_journal, state_file};
-ghost use Rattle.flsm_core.specs.Touched.{HasTouchedNextLog};
+ghost use Rattle.recovery.specs.NextLog.{HasTouchedNextLog};
 ghost use Rattle.script.specs.declared.cause.Cause.TheVariants as causes;
 ghost use Rattle.pebbles_cli.specs.Causes.{IsOpeningCause, opening_cause};
 ghost use Rattle.pebbles_cli.specs.Names.{OpensAtMost};
@@ -18,8 +18,9 @@ ghost use Rattle.pebbles_cli.specs.Outside.{devices_told};
 ghost use Rattle.pebbles_cli.specs.Top.{IsNext, TouchesAtMost};
 
 use disk_model::Devices;
-use flsm_core::{OpenFault, State};
+use flsm_core::State;
 use peb_base::Profile;
+use recovery::OpenFault;
 use script::Cause;
 use std::alloc::Global;
 
@@ -99,7 +100,7 @@ pub fn open_store<D: Devices>(
     let Ok(journal) = devices.journal() else {
         return Err(Cause::Journal);
     };
-    match State::open(alloc, journal, Profile::Small) {
+    match recovery::open(alloc, journal, Profile::Small) {
         Ok(state) => Ok(state),
         Err(refused) => {
             let (fault, journal) = refused;

@@ -2,10 +2,10 @@ ghost use Rattle.std.specs.Prelude.{◌≡◌, ◌≤◌, ℕ, List, Bool, true,
 ghost use Rattle.peb_base.specs.declared.profile.Profile.TheVariants.{Small};
 ghost use Rattle.peb_base.specs.Batches.{Batches};
 ghost use Rattle.disk_model.specs.Told.{TablesStay, told_by};
-ghost use Rattle.flsm_core.specs.Opening.{OpensOn};
+ghost use Rattle.recovery.specs.Opening.{OpensOn};
 ghost use Rattle.flsm_core.specs.Place.{Place, start_at};
 ghost use Rattle.flsm_core.specs.Standing.{IsAt};
-ghost use Rattle.flsm_core.specs.Range.{Range, AreIn};
+ghost use Rattle.recovery.specs.Range.{Range, AreIn};
 ghost use Rattle.flsm_core.specs.State.{state_journal, state_file};
 ghost use Rattle.flsm_core.specs.Touched.{HasTouched};
 ghost use Rattle.pebbles_cli.specs.Causes.{IsBeforeOpening, Says, end_of};

@@ -2,9 +2,9 @@ ghost use Rattle.std.specs.Prelude.{◌≡◌, ◌↔◌, ℕ, Bool, true, false
 ghost use Rattle.peb_base.specs.declared.profile.Profile.TheVariants.{Small};
 ghost use Rattle.peb_base.specs.Batches.{Batches};
 ghost use Rattle.peb_base.specs.Faults.{Rose};
-ghost use Rattle.flsm_core.specs.Opening.{OpensOn};
+ghost use Rattle.recovery.specs.Opening.{OpensOn};
 ghost use Rattle.flsm_core.specs.Place.{start_at};
-ghost use Rattle.flsm_core.specs.Range.{Range, AreIn};
+ghost use Rattle.recovery.specs.Range.{Range, AreIn};
 ghost use Rattle.script.specs.Cause.{status_of};
 ghost use Rattle.script.specs.declared.cause.Cause.TheVariants as causes;
 ghost use Rattle.pebbles_cli.specs.Words.{run_words};

@@ -2,10 +2,11 @@ use Rattle.std.proofs.Common.{inl, sym, subst}
 use Rattle.peb_base.specs.declared.profile.Profile.TheVariants.{Small}
 use Rattle.disk_model.specs.Told.{told_by}
 use Rattle.flsm_core.specs.Place.{Start, opened}
-use Rattle.flsm_core.specs.Logs.{ReadsAs}
+use Rattle.store_layout.specs.Logs.{ReadsAs}
 use Rattle.flsm_core.specs.Standing.{IsAt}
 use Rattle.flsm_core.specs.State.{state_session, state_journal, state_file}
-use Rattle.flsm_core.specs.Touched.{next_log_on, touched_self}
+use Rattle.recovery.specs.NextLog.{next_log_on}
+use Rattle.flsm_core.specs.Touched.{touched_self}
 use Rattle.pebbles_cli.proofs.Handing.{same_then, tells_itself, watched_same, touches_between, opens_same, starts_same, opens_read, next_of, starts_in_same, in_between, in_same}
 use Rattle.pebbles_cli.proofs.opening.open_store.Goals as goal
 

@@ -3,7 +3,7 @@ use Rattle.peb_base.specs.declared.op.Op.{Op}
 use Rattle.record_log.specs.BatchRecord.{batch_bytes, IsBatch}
 use Rattle.record_log.specs.Groups.{record_bytes}
 use Rattle.record_log.specs.State.{log_tail}
-use Rattle.flsm_core.specs.Logs.{record_of, record_of-is}
+use Rattle.store_layout.specs.Logs.{record_of, record_of-is}
 use Rattle.flsm_core.specs.Place.{put_op, next_number, all_of}
 use Rattle.flsm_core.proofs.At.{at_put}
 use Rattle.flsm_core.proofs.state.StateStore.put.Goals as goal

@@ -3,9 +3,9 @@ use Rattle.std.specs.Prelude.{ℕ, map, List, Option}
 use Rattle.disk_model.specs.Told.{told_by}
 use Rattle.record_log.specs.State.{log_file}
 use Rattle.record_log.specs.Ready.{IsBeforeOrAfter}
-use Rattle.flsm_core.specs.Logs.{record_of}
+use Rattle.store_layout.specs.Logs.{record_of}
 use Rattle.flsm_core.proofs.At.{at_synced, at_halted, during_close}
-use Rattle.flsm_core.proofs.Touching.{touched_step, leaves_but}
+use Rattle.flsm_core.specs.Touched.{touched_step, leaves_but}
 use Rattle.flsm_core.proofs.state.StateStore.sync.Goals as goal
 
 pub returns-in-Ok-clause-stands : goal.returns-in-Ok-clause-stands

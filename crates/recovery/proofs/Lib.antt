@@ -1,0 +1,7 @@
+pub mod Begins
+pub mod Founds
+pub mod Openings
+pub mod Ranges
+pub mod Records
+pub mod Replays
+pub mod Touching

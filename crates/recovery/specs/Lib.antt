@@ -1,0 +1,4 @@
+pub mod NextLog
+pub mod Opening
+pub mod Range
+pub mod Record

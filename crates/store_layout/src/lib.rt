@@ -1,0 +1,10 @@
+//! Which logs an image of the store has, and which batches they spell.
+//!
+//! The layers above may use the definitions in `specs/Logs`, the lemmas beside them (how logs go on,
+//! what they spell together, what a step of one file leaves of them), and the laws that an image is
+//! read in one way. Nothing runs here, and nothing is known of an open store, nor of an opening.
+#![tactic(auto)]
+
+mod laws;
+
+pub use laws::{one_layout, one_spelling};
