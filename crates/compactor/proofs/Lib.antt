@@ -1,0 +1,7 @@
+mod Keys
+mod Lengths
+mod Places
+mod Pushing
+mod Standing
+mod Stops
+mod Walks
