@@ -1,7 +1,7 @@
 //! The log against bytes from outside.
 
 use crate::{BatchRecordFault, Header, LogFault, LogFile, read_batch, write_batch};
-use disk_model::{Devices, JournalFile, MemDevices, Plans};
+use disk_model::{Devices, Journal, JournalFile, MemDevices, Plans};
 use peb_base::{Batch, Number, Profile};
 use std::alloc::Global;
 use std::test::Fail;
@@ -70,6 +70,38 @@ fn the_log_of_one_put_is_read(rt: HostRuntime) -> Result<(), Fail> {
     assert_eq!(rt; first, Number::new(1, 1));
     assert_eq!(rt; batch.ops().len(), 1);
     assert_eq!(rt; batch.ops()[0].key.bytes(), b"a".as_slice());
+    Ok(())
+}
+
+/// Reads a log, and closes a group of a record with this body behind what was read: how many
+/// records that were.
+fn grown<J: Journal>(alloc: Global, journal: &mut J, body: &[u8]) -> Result<usize, Fail> {
+    let (mut log, header, records) = match LogFile::resume(alloc, journal, JournalFile::Log(1)) {
+        Ok(Some(read)) => read,
+        Ok(None) => return Err("no log".into()),
+        Err(fault) => return Err(fault.into()),
+    };
+    if header != Header::of_log(Profile::Small, 1, 1) || log.tail() != 0 {
+        return Err("another log".into());
+    }
+    log.add(body)?;
+    log.close_group(journal)?;
+    Ok(records.len())
+}
+
+#[test]
+fn a_log_that_was_read_takes_further_groups(rt: HostRuntime) -> Result<(), Fail> {
+    let alloc = rt.alloc();
+    let devices = MemDevices::new(alloc, Plans::empty(alloc))?;
+    let mut devices = devices.with_file(JournalFile::Log(1), &LOG)?;
+    let mut journal = devices.journal()?;
+    let read = grown(alloc, &mut journal, b"more")?;
+    devices.back(journal);
+    let bytes = devices.bytes_of(JournalFile::Log(1)).ok_or("no log")?;
+    let mut want = LOG[..52].to_vec(alloc)?;
+    want.extend_from_slice(&[1, 0, 0, 0, 8, 0, 0, 0, 4, b'm', b'o', b'r', b'e', 0])?;
+    assert_eq!(rt; read, 1);
+    assert_eq!(rt; bytes, want.as_slice());
     Ok(())
 }
 
