@@ -59,14 +59,20 @@ Counts told = (t : ℕ) (image : Image) → t ≤ told.moment → told.may_leave
 
 -- each image that the call leaves is one from before but for the file
 abbrev pub LeavesBut : JournalFile → (Image → Type 0) → (Image → Type 0) → Type 0
-LeavesBut file before after = (image : Image) → after image → (old : Image) × before old × AreSameBut file old image
+LeavesBut file before after =
+    (image : Image) → after image → (old : Image) × before old × AreSameBut file old image
 
 -- a step in one file leaves the others
-pub leaves_but : (file : JournalFile) (R : Option (List ℕ) → Option (List ℕ) → Type 0) (before after : Image → Type 0) → Follows (In file R) before after → LeavesBut file before after
-leaves_but file R before after follows = λ image left. let from = follows image left in (from.0, from.1, from.2.elsewhere)
+pub leaves_but : (file : JournalFile) (R : Option (List ℕ) → Option (List ℕ) → Type 0)
+    (before after : Image → Type 0) → Follows (In file R) before after
+    → LeavesBut file before after
+leaves_but file R before after follows =
+    λ image left. let from = follows image left in (from.0, from.1, from.2.elsewhere)
 
 -- what was left since a time was left before the call, or since any time between
-since_step : (old new : JournalTold) → Elapses old.moment new.moment old.left_since new.left_since → (t s : ℕ) (image : Image) → t ≤ s → s ≤ old.moment → new.left_since t image
+since_step : (old new : JournalTold)
+    → Elapses old.moment new.moment old.left_since new.left_since → (t s : ℕ) (image : Image)
+    → t ≤ s → s ≤ old.moment → new.left_since t image
     → old.left_since t image ⊎ new.left_since s image
 since_step old new time t s image low le left = elim (time.nothing_else t image (omega (arith, low, le)) left) [
   | inl past ↦ inl past
@@ -74,8 +80,11 @@ since_step old new time t s image low le left = elim (time.nothing_else t image 
 ]
 
 -- one call that changed one file
-pub touched_step : (tells : Bool) (file : JournalFile) (old new : JournalTold) → Counts old → Elapses old.moment new.moment old.left_since new.left_since
-    → AreSameBut file old.seen new.seen → (IsTrue tells → LeavesBut file old.may_leave (new.left_since old.moment)) → HasTouched tells file old new
+pub touched_step : (tells : Bool) (file : JournalFile) (old new : JournalTold) → Counts old
+    → Elapses old.moment new.moment old.left_since new.left_since
+    → AreSameBut file old.seen new.seen
+    → (IsTrue tells → LeavesBut file old.may_leave (new.left_since old.moment))
+    → HasTouched tells file old new
 touched_step tells file old new counts time reads follows = record {
   later = time.later;
   reads = reads;
