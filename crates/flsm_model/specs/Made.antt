@@ -5,7 +5,8 @@ use Rattle.std.specs.List.{list_all, AllZip}
 use Rattle.flsm_model.specs.Compaction.{kept, pieces, some_entries}
 use Rattle.peb_base.specs.Tables.{is_row}
 use Rattle.flsm_model.specs.Fits.{lies_in, lie_apart, range_of_row, are_choices, numbers_differ}
-use Rattle.flsm_model.specs.Trees.{Describes, contents, content_of, merged}
+use Rattle.flsm_model.specs.Trees.{Describes, contents, content_of}
+use Rattle.peb_base.specs.Entries.{in_order}
 use Rattle.peb_base.specs.declared.entry.Entry.{Entry}
 use Rattle.peb_base.specs.Profiles.{Column}
 use Rattle.flsm_model.specs.declared.edit.Edit.{Edit}
@@ -65,18 +66,37 @@ OutcomesFit o w =
     (n : Session) → w.session ≡ Some n → (r : Running) → IsIn r n.running → (e : Edit)
     → IsMade o w n r.1 e → IsOutcome o w n r.1 e
 
--- what a job makes of its inputs, or of what is frozen, by what the worker knows: a Move cuts by
--- the job's own keys
-abbrev pub made_at : JobKind → Standing → Session → Job → List (List Entry)
-made_at FlushJob w n j = frozen_entries w.batches w.tree.shape.to n.frozen
-made_at MoveJob w n j = pieces (kept (merged w.tree.tables j.inputs) j.floor false) j.keys
-made_at CutJob w n j = flat_map (λ m. pieces (content_of w.tree.tables m) j.keys) j.inputs
-made_at MergeJob w n j = some_entries (kept (merged w.tree.tables j.inputs) j.floor j.whole)
+-- all entries of the parts, in order
+abbrev pub entries_of_parts : List (List Entry) → List Entry
+entries_of_parts parts = in_order (flat_map (λ es. es) parts)
 
--- the outcome of a job in flight is what the job makes of its inputs; while it stays in flight, the
+-- what a job of the kind makes of its parts: a Flush one table of each, a Move what is kept in pieces
+-- by its own keys, a Cut the pieces of each, a Merge one table of what is kept
+abbrev pub made_by : JobKind → Job → List (List Entry) → List (List Entry)
+made_by FlushJob j parts = parts
+made_by MoveJob j parts = pieces (kept (entries_of_parts parts) j.floor false) j.keys
+made_by CutJob j parts = flat_map (λ es. pieces es j.keys) parts
+made_by MergeJob j parts = some_entries (kept (entries_of_parts parts) j.floor j.whole)
+
+-- what a job makes of its parts
+abbrev pub made_of : Job → List (List Entry) → List (List Entry)
+made_of j parts = made_by j.kind j parts
+
+-- the parts of a job of the kind: what is frozen, or the contents of its inputs, in their order
+abbrev pub parts_at : JobKind → Standing → Session → Job → List (List Entry)
+parts_at FlushJob w n j = frozen_entries w.batches w.tree.shape.to n.frozen
+parts_at MoveJob w n j = map (content_of w.tree.tables) j.inputs
+parts_at CutJob w n j = map (content_of w.tree.tables) j.inputs
+parts_at MergeJob w n j = map (content_of w.tree.tables) j.inputs
+
+-- the parts of a job
+abbrev pub parts_of : Standing → Session → Job → List (List Entry)
+parts_of w n j = parts_at j.kind w n j
+
+-- the outcome of a job in flight is what the job makes of its parts; while it stays in flight, the
 -- inputs' entries and the outcome stay
 pub record OutcomeStands (o : Column) (w : Standing) (n : Session) (r : Running) : Type 0 where
-  pub own : outcome o w n r.1 ≡ made_at r.1.kind w n r.1
+  pub own : outcome o w n r.1 ≡ made_of r.1 (parts_of w n r.1)
   pub inputs : (e : Event) (m : Session) → AllowedIn o w n e → (step o w e).session ≡ Some m
       → IsIn r m.running
       → (k : ℕ) → has_number k r.1.inputs ≡ true

@@ -35,9 +35,9 @@ pub use edit::Edit;
 pub use job::Job;
 pub use job_kind::JobKind;
 pub use laws::{
-    law_bound, law_candidates, law_claims, law_due, law_fronts, law_guards, law_idle, law_jobs,
-    law_lookup, law_map, law_marks, law_order, law_outcomes, law_place, law_record, law_settles,
-    law_shape, law_stays, law_stop, law_tables,
+    law_bound, law_candidates, law_claims, law_due, law_fronts, law_guard_ranges, law_guards,
+    law_idle, law_jobs, law_lookup, law_map, law_marks, law_order, law_outcomes, law_place,
+    law_record, law_settles, law_shape, law_stays, law_stop, law_tables,
 };
 pub use ledger::Ledger;
 pub use level_count::LevelCount;

@@ -26,7 +26,7 @@ use Rattle.flsm_model.specs.Jobs.{IsLawful, IsFlush, IsOfKind}
 use Rattle.flsm_model.specs.Legal.{Allowed, AllowedIn, IsLegal, Always}
 use Rattle.peb_base.specs.Members.{IsIn}
 use Rattle.flsm_model.specs.Undisturbed.{KeepsFlush, KeepsKind, Undisturbed}
-use Rattle.flsm_model.specs.Made.{made_at, OutcomeStands, OutcomesStay}
+use Rattle.flsm_model.specs.Made.{made_by, made_of, parts_at, parts_of, OutcomeStands, OutcomesStay}
 use Rattle.flsm_model.proofs.lists.Members.{from_merged, has_in}
 use Rattle.flsm_model.proofs.guards.Guards.{AscendFrom}
 use Rattle.flsm_model.proofs.contents.Falls.{InFlight}
@@ -45,6 +45,7 @@ use Rattle.flsm_model.proofs.histories.Undisturb.{gone, inputs_apart, EditIs, Is
 use Rattle.flsm_model.proofs.histories.Whole.{Stands, Calm, stands_base, stands_step, stands_always}
 use Rattle.flsm_model.proofs.lists.Lists.{in_filter, all_in, any_in, filter_all, filter_no}
 use Rattle.std.proofs.lemmas.List.{append-nil}
+use Rattle.std.proofs.lemmas.List.Folds.{flat_map-map}
 
 -- ---- cutting by all guards is cutting by those of the range
 
@@ -147,6 +148,22 @@ inputs_stay o w n j k e al eq en uj uk m hk =
 flat_same : {X Y : Type 0} (f g : X → List Y) (xs : List X) → ((x : X) → IsIn x xs → f x ≡ g x) → flat_map f xs ≡ flat_map g xs
 flat_same f g [] h = refl
 flat_same f g (x ∷ xs) h = λ i. h x (inl refl) i ++ flat_same f g xs (λ y m. h y (inr m)) i
+
+-- what a job of the kind makes, by the numbers of its inputs
+abbrev made_at : JobKind → Standing → Session → Job → List (List Entry)
+made_at FlushJob w n j = frozen_entries w.batches w.tree.shape.to n.frozen
+made_at MoveJob w n j = pieces (kept (merged w.tree.tables j.inputs) j.floor false) j.keys
+made_at CutJob w n j = flat_map (λ m. pieces (content_of w.tree.tables m) j.keys) j.inputs
+made_at MergeJob w n j = some_entries (kept (merged w.tree.tables j.inputs) j.floor j.whole)
+
+-- it is what the job makes of its parts
+of_parts : (a : JobKind) (w : Standing) (n : Session) (j : Job) → made_at a w n j ≡ made_by a j (parts_at a w n j)
+of_parts FlushJob w n j = refl
+of_parts MoveJob w n j =
+    ap (λ es. pieces (kept (in_order es) j.floor false) j.keys) (sym (flat_map-map (λ es. es) (content_of w.tree.tables) j.inputs))
+of_parts CutJob w n j = sym (flat_map-map (λ es. pieces es j.keys) (content_of w.tree.tables) j.inputs)
+of_parts MergeJob w n j =
+    ap (λ es. some_entries (kept (in_order es) j.floor j.whole)) (sym (flat_map-map (λ es. es) (content_of w.tree.tables) j.inputs))
 
 made_same : (w v : Standing) (n m : Session) (j : Job) (a : JobKind) → ((k : ℕ) → has_number k j.inputs ≡ true → content_of v.tree.tables k ≡ content_of w.tree.tables k)
     → (a ≡ FlushJob → frozen_entries v.batches v.tree.shape.to m.frozen ≡ frozen_entries w.batches w.tree.shape.to n.frozen) → made_at a v m j ≡ made_at a w n j
@@ -318,13 +335,13 @@ frozen_content o w n r st ff eq j JournalFault m a q i k = ap (λ (s : Session).
 frozen_content o w n r st ff eq j (Stop x e) m a q i k = absurd (never_some m q)
 
 pub outcome_stands : (o : Column) (w : Standing) (n : Session) (r : Running) → 0 < o.last_level → Stands o w → FrozenHold w.session → w.session ≡ Some n → IsIn r n.running → OutcomeStands o w n r
-outcome_stands o w n r d st fh eq i = record { own = own; inputs = input_content o w n r st eq; stays = go }
+outcome_stands o w n r d st fh eq i = record { own = made ∙ of_parts r.1.kind w n r.1; inputs = input_content o w n r st eq; stays = go }
   where
     ff : FlushFrozen n
     ff = subst FrozenHold eq fh
 
-    own : outcome o w n r.1 ≡ made_at r.1.kind w n r.1
-    own = own_made o w n r.1 st.all (calm_of o w n st eq r i) ((jobs_of o w n st eq).now.each r i)
+    made : outcome o w n r.1 ≡ made_at r.1.kind w n r.1
+    made = own_made o w n r.1 st.all (calm_of o w n st eq r i) ((jobs_of o w n st eq).now.each r i)
 
     go : (e : Event) (m : Session) → AllowedIn o w n e → (step o w e).session ≡ Some m → IsIn r m.running → outcome o (step o w e) m r.1 ≡ outcome o w n r.1
     go e m a q k =
@@ -332,7 +349,7 @@ outcome_stands o w n r d st fh eq i = record { own = own; inputs = input_content
         let sv : Stands o v = stands_step o w e d st (subst (λ s. Allowed o w s e) (sym eq) a) in
         own_made o v m r.1 sv.all (calm_of o v m sv q r k) ((jobs_of o v m sv q).now.each r k)
         ∙ made_same w v n m r.1 r.1.kind (input_content o w n r st eq e m a q k) (λ f. frozen_content o w n r st ff eq i e m a q k f)
-        ∙ sym own
+        ∙ sym made
 
 -- ---- the law
 
