@@ -93,17 +93,43 @@ EditsSettle =
     → Lessens (column p) frozen (shape_of (column p) r) (frozen_after frozen e)
     (shape_of (column p) (r ++ e ∷ []))
 
--- the three as one number, where the second is at most P and the third at most E
+-- at most so many candidates without a guard, counted per level, can be where each frozen entry may
+-- choose a key more
+abbrev pub most_uncommitted : Column → ℕ → Shape → ℕ
+most_uncommitted o frozen s = (length s.chosen + frozen) * o.last_level
+
+-- so many entries are frozen or in live tables
+abbrev pub entries_held : ℕ → Shape → ℕ
+entries_held frozen s = frozen + entries_in s.live
+
+-- three digits as one number, the second at most P and the third at most E
 abbrev pub measure : ℕ → ℕ → ℕ → ℕ → ℕ → ℕ
 measure P E a b c = (a * suc P + b) * suc E + c
 
--- where there is less to do, the number falls
-abbrev pub MeasureFalls : Type 0
-MeasureFalls =
-    (o : Column) (f f2 : ℕ) (s s2 : Shape) (P E : ℕ) → uncommitted o s2 ≤ P
-    → last_tables o s2.live ≤ E → Lessens o f s f2 s2
-    → measure P E (levels_to_go o f2 s2) (uncommitted o s2) (last_tables o s2.live)
-    < measure P E (levels_to_go o f s) (uncommitted o s) (last_tables o s.live)
+-- how much there is to do, as one number: the three in their order of weight
+abbrev pub to_do : Column → ℕ → Shape → ℕ
+to_do o frozen s =
+    measure (most_uncommitted o frozen s) (entries_held frozen s) (levels_to_go o frozen s)
+    (uncommitted o s) (last_tables o s.live)
+
+-- how many keys an edit chooses
+abbrev pub keys_chosen : Edit → ℕ
+keys_chosen (Flush row from to log chosen) = length chosen
+keys_chosen (Open session log) = 0
+keys_chosen (Move level floor inputs outputs) = 0
+keys_chosen (Cut level keys inputs outputs) = 0
+keys_chosen (Merge floor whole inputs outputs) = 0
+
+-- the number falls too, where an edit chooses no more keys than it takes entries
+abbrev pub NumberFalls : Type 0
+NumberFalls =
+    (p : Profile) (r : Record) (e : Edit) (frozen : ℕ)
+    → is_legal_record (column p) (r ++ e ∷ []) ≡ true
+    → HasWork (column p) (shape_of (column p) r) frozen e
+    → entries_in (outputs_of e) ≤ entries_taken (shape_of (column p) r) frozen e
+    → keys_chosen e ≤ entries_taken (shape_of (column p) r) frozen e
+    → to_do (column p) (frozen_after frozen e) (shape_of (column p) (r ++ e ∷ []))
+    < to_do (column p) frozen (shape_of (column p) r)
 
 -- how many entries are frozen
 abbrev pub entries_frozen : Standing → Session → ℕ
@@ -117,11 +143,13 @@ OutcomesConserve o w =
     → IsOutcome o w n r.1 e
     → entries_in (outputs_of e) ≤ entries_taken w.tree.shape (entries_frozen w n) e
 
--- the edit leaves less to do than there is now
+-- the edit leaves less to do than there is now: by the three, and as one number
 abbrev pub LeavesLess : Column → Standing → Session → Edit → Type 0
 LeavesLess o w n e =
     Lessens o (entries_frozen w n) w.tree.shape (frozen_after (entries_frozen w n) e)
     (shape_after w.tree.shape e)
+    × (to_do o (frozen_after (entries_frozen w n) e) (shape_after w.tree.shape e)
+    < to_do o (entries_frozen w n) w.tree.shape)
 
 -- each outcome of a job in flight that has work leaves less to do
 abbrev pub OutcomesSettle : Column → Standing → Type 0

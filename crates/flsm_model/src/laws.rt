@@ -15,7 +15,7 @@ ghost use Rattle.flsm_model.specs.Undisturbed.{JobsUndisturbed};
 ghost use Rattle.flsm_model.specs.Made.{OutcomesFit, OutcomesStay};
 ghost use Rattle.flsm_model.specs.LastLevel.{WrittenByMerges};
 ghost use Rattle.flsm_model.specs.Fronts.{EmptyIsTrue, FrontsAreLegal, HistoriesJoin, MarksInOrder};
-ghost use Rattle.flsm_model.specs.Settling.{EditsSettle, MeasureFalls, OutcomesConserve, OutcomesSettle};
+ghost use Rattle.flsm_model.specs.Settling.{EditsSettle, NumberFalls, OutcomesConserve, OutcomesSettle};
 ghost use Rattle.flsm_model.specs.Picked.{PickedIsLawful, IdleHasRoom, ChosenAscend, AscendingAreEqual};
 ghost use Rattle.flsm_model.specs.PickedSettles.{PickedSettles, PickedHasWork};
 ghost use Rattle.flsm_model.specs.Candidates.{CandidatesMeet};
@@ -115,12 +115,12 @@ pub fn law_marks()
 
 /// An edit that has work, and writes no more entries than it takes, leaves less to do until the
 /// store is settled: fewer levels to go, or else fewer candidates without a guard, or else fewer
-/// tables in the last level. Outcomes write no more than their jobs take, so that each one that has
-/// work leaves less to do; what the job that is picked makes always does, and has work over any
-/// device.
+/// tables in the last level. As one number that is less too, so at most so many such edits follow
+/// one another. Outcomes write no more than their jobs take, so that each one that has work leaves
+/// less to do; what the job that is picked makes always does, and has work over any device.
 pub fn law_settles()
     ensures edits { EditsSettle }
-    ensures measure { MeasureFalls }
+    ensures number { NumberFalls }
     ensures outcomes { Always OutcomesConserve }
     ensures less { Always OutcomesSettle }
     ensures picked { Always PickedSettles }

@@ -7,17 +7,19 @@ use Rattle.std.specs.Cmp.Lexicographic.{bytes_decides}
 use Rattle.std.proofs.lemmas.Bool.{and_parts, and_from, or_left, or_right, eqb-true, eq-eqb, ltb-true, lt-ltb, le-ltb, leb-true, true≢false, false≢true, not-true, cases_lt}
 use Rattle.peb_base.specs.Keys.{Bytes, key_lt, key_eq}
 use Rattle.peb_base.specs.Profiles.{column, Column}
+use Rattle.peb_base.specs.declared.profile.Profile.{Profile}
 use Rattle.peb_base.specs.declared.table_row.TableRow.{TableRow}
+use Rattle.std.proofs.lemmas.List.{length-append}
 use Rattle.flsm_model.specs.declared.chosen.Chosen.{Chosen}
 use Rattle.flsm_model.specs.declared.edit.Edit.{Edit}
 use Rattle.flsm_model.specs.declared.edit.Edit.TheVariants.{Open, Flush, Move, Cut, Merge}
 use Rattle.flsm_model.specs.Ranges.{has_key, first_of, with_key, with_keys, range_of}
 use Rattle.flsm_model.specs.Shape.{Record, Shape, empty_shape, shape_from, shape_of, outputs_of, shape_after, guards_at, has_number, rows_numbered, rows_without}
 use Rattle.peb_base.specs.Tables.{is_row}
-use Rattle.flsm_model.specs.Fits.{fits, fit_from, is_new, is_of_session, rows_are_new, is_guard, is_live, is_some_list, is_straddled}
+use Rattle.flsm_model.specs.Fits.{fits, fit_from, is_new, is_of_session, rows_are_new, is_guard, is_live, is_legal_record, is_some_list, is_straddled}
 use Rattle.flsm_model.specs.Writes.{total, one_if}
 use Rattle.peb_base.specs.Members.{IsIn}
-use Rattle.flsm_model.specs.Settling.{sum_to, entries_in, entries_above, levels_open, uncommitted, last_tables, Lessens, measure, MeasureFalls, entries_taken, frozen_after, HasWork, EditsSettle}
+use Rattle.flsm_model.specs.Settling.{sum_to, entries_in, entries_above, levels_to_go, levels_open, uncommitted, last_tables, most_uncommitted, entries_held, Lessens, measure, to_do, keys_chosen, entries_taken, frozen_after, HasWork, EditsSettle, NumberFalls}
 use Rattle.flsm_model.proofs.guards.Facts.{move_facts, flush_facts, cut_facts, merge_facts}
 use Rattle.flsm_model.proofs.lists.Totals.{total-append, total-parts}
 use Rattle.flsm_model.proofs.lists.Lists.{all_in, any_in, in_kept, in_append, in_filter, list_all-weaker}
@@ -300,8 +302,74 @@ one_number P E a b c a2 b2 c2 p e h = elim h [
   ]
 ]
 
-pub measure_falls : MeasureFalls
-measure_falls o f f2 s s2 P E p e h = one_number P E _ _ _ _ _ _ p e h
+-- lesser weights make no greater number
+weights_le : (P E P2 E2 a b c : ℕ) → P2 ≤ P → E2 ≤ E → measure P2 E2 a b c ≤ measure P E a b c
+weights_le P E P2 E2 a b c p e =
+    let x : a * suc P2 + b ≤ a * suc P + b = omega (arith, mul-le a (suc P2) a (suc P) (le_same a) (omega (arith, p))) in
+    omega (arith, mul-le (a * suc P2 + b) (suc E2) (a * suc P + b) (suc E) x (omega (arith, e)))
+
+-- ---- what bounds the second digit and the third
+
+open_few : (s : Shape) (c : Chosen) (n : ℕ) → levels_open s c n ≤ n
+open_few s c zero = omega arith
+open_few s c (suc n) = by (nat_le c.level (suc n) && not (is_guard s (suc n) c.key)) (open_few s c n)
+  where
+    by : (b : Bool) → levels_open s c n ≤ n → one_if b + levels_open s c n ≤ suc n
+    by true h = omega (arith, h)
+    by false h = omega (arith, h)
+
+uncommitted_few : (s : Shape) (n : ℕ) (cs : List Chosen) → total (λ (c : Chosen). levels_open s c n) cs ≤ length cs * n
+uncommitted_few s n [] = omega arith
+uncommitted_few s n (c ∷ cs) = omega (arith, open_few s c n, uncommitted_few s n cs)
+
+tables_few : (o : Column) (rs : List TableRow) → ((r : TableRow) → IsIn r rs → 0 < r.entries) → last_tables o rs ≤ entries_in rs
+tables_few o [] h = omega arith
+tables_few o (r ∷ rs) h = by (r.level == o.last_level) (h r (inl refl)) (tables_few o rs (λ x i. h x (inr i)))
+  where
+    by : (b : Bool) → 0 < r.entries → last_tables o rs ≤ entries_in rs → one_if b + last_tables o rs ≤ r.entries + entries_in rs
+    by true a h = omega (arith, a, h)
+    by false a h = omega (arith, a, h)
+
+-- what is taken and what stays, by entries
+entries_part : (ns : List ℕ) (rs : List TableRow) → entries_in (rows_numbered ns rs) + entries_in (rows_without ns rs) ≡ entries_in rs
+entries_part ns rs = total-parts (λ (r : TableRow). r.entries) (λ r. has_number r.number ns) rs
+
+entries_joined : (xs ys : List TableRow) → entries_in (xs ++ ys) ≡ entries_in xs + entries_in ys
+entries_joined xs ys = total-append (λ (r : TableRow). r.entries) xs ys
+
+-- an edit holds no more entries than before
+held_less : (s : Shape) (e : Edit) (frozen : ℕ) → entries_in (outputs_of e) ≤ entries_taken s frozen e → entries_held (frozen_after frozen e) (shape_after s e) ≤ entries_held frozen s
+held_less s (Open session log) frozen few = le_same (entries_held frozen s)
+held_less s (Flush row from to log chosen) frozen few = omega (arith, entries_part [] s.live, entries_joined (rows_without [] s.live) (row ∷ []), few)
+held_less s (Move level floor inputs outputs) frozen few = omega (arith, entries_part inputs s.live, entries_joined (rows_without inputs s.live) outputs, few)
+held_less s (Cut level keys inputs outputs) frozen few = omega (arith, entries_part inputs s.live, entries_joined (rows_without inputs s.live) outputs, few)
+held_less s (Merge floor whole inputs outputs) frozen few = omega (arith, entries_part inputs s.live, entries_joined (rows_without inputs s.live) outputs, few)
+
+-- chosen keys and those that may come are no more than before
+chosen_less : (s : Shape) (e : Edit) (frozen : ℕ) → keys_chosen e ≤ entries_taken s frozen e → length (shape_after s e).chosen + frozen_after frozen e ≤ length s.chosen + frozen
+chosen_less s (Open session log) frozen few = le_same (length s.chosen + frozen)
+chosen_less s (Flush row from to log chosen) frozen few = omega (arith, length-append s.chosen chosen, few)
+chosen_less s (Move level floor inputs outputs) frozen few = le_same (length s.chosen + frozen)
+chosen_less s (Cut level keys inputs outputs) frozen few = le_same (length s.chosen + frozen)
+chosen_less s (Merge floor whole inputs outputs) frozen few = le_same (length s.chosen + frozen)
+
+-- so the number falls where the three lessen
+falls : (o : Column) (s : Shape) (e : Edit) (frozen : ℕ) → ((r : TableRow) → IsIn r (shape_after s e).live → 0 < r.entries)
+    → Lessens o frozen s (frozen_after frozen e) (shape_after s e) → entries_in (outputs_of e) ≤ entries_taken s frozen e → keys_chosen e ≤ entries_taken s frozen e
+    → to_do o (frozen_after frozen e) (shape_after s e) < to_do o frozen s
+falls o s e frozen some less few keys =
+    let s2 : Shape = shape_after s e in
+    let f2 : ℕ = frozen_after frozen e in
+    let p : most_uncommitted o f2 s2 ≤ most_uncommitted o frozen s = mul-le _ o.last_level _ o.last_level (chosen_less s e frozen keys) (le_same o.last_level) in
+    let h : entries_held f2 s2 ≤ entries_held frozen s = held_less s e frozen few in
+    let b : uncommitted o s2 ≤ most_uncommitted o f2 s2 =
+    omega (arith, uncommitted_few s2 o.last_level s2.chosen, mul-le (length s2.chosen) o.last_level (length s2.chosen + f2) o.last_level (omega arith) (le_same o.last_level)) in
+    let c : last_tables o s2.live ≤ entries_held f2 s2 = omega (arith, tables_few o s2.live some) in
+    omega (
+      arith,
+      weights_le (most_uncommitted o frozen s) (entries_held frozen s) (most_uncommitted o f2 s2) (entries_held f2 s2) (levels_to_go o f2 s2) (uncommitted o s2) (last_tables o s2.live) p h,
+      one_number (most_uncommitted o frozen s) (entries_held frozen s) (levels_to_go o frozen s) (uncommitted o s) (last_tables o s.live) (levels_to_go o f2 s2) (uncommitted o s2) (last_tables o s2.live) (omega (arith, b, p)) (omega (arith, c, h)) less,
+    )
 
 -- ---- for every legal record
 
@@ -339,10 +407,31 @@ settles o s (Move level floor inputs outputs) frozen g some f w few = move_lesse
 settles o s (Cut level keys inputs outputs) frozen g some f w few = cut_lessens o s frozen level keys inputs outputs g f few
 settles o s (Merge floor whole inputs outputs) frozen g some f w few = merge_lessens o s frozen floor whole inputs outputs f w
 
+-- an edit that fits leaves live tables with entries
+entries_stay : (o : Column) (s : Shape) (e : Edit) → fits o s e ≡ true → ((x : TableRow) → IsIn x s.live → 0 < x.entries) → (x : TableRow) → IsIn x (shape_after s e).live → 0 < x.entries
+entries_stay o s e f h = has_entries o s (e ∷ []) (and_from (fits o s e) true f refl) h
+
+-- ---- the laws
+
+module _ (p : Profile) (r : Record) (e : Edit) (frozen : ℕ) (legal : is_legal_record (column p) (r ++ e ∷ []) ≡ true) where
+  before : fit_from (column p) (empty_shape (column p)) r ≡ true
+  before = (fit_append (column p) (empty_shape (column p)) r (e ∷ []) legal).0
+
+  fit : fits (column p) (shape_of (column p) r) e ≡ true
+  fit = (and_parts _ _ (fit_append (column p) (empty_shape (column p)) r (e ∷ []) legal).1).0
+
+  some_entries_live : (x : TableRow) → IsIn x (shape_of (column p) r).live → 0 < x.entries
+  some_entries_live = has_entries (column p) (empty_shape (column p)) r before (λ x i. absurd i)
+
+  lessens : HasWork (column p) (shape_of (column p) r) frozen e → entries_in (outputs_of e) ≤ entries_taken (shape_of (column p) r) frozen e
+      → Lessens (column p) frozen (shape_of (column p) r) (frozen_after frozen e) (shape_after (shape_of (column p) r) e)
+  lessens w few = settles (column p) (shape_of (column p) r) e frozen (guards_from (column p) (empty_shape (column p)) r before (kept_empty (column p)).guards) some_entries_live fit w few
+
 pub edits_settle : EditsSettle
 edits_settle p r e frozen legal w few =
-    let o = column p in
-    let f = fit_append o (empty_shape o) r (e ∷ []) legal in
-    let fit : fits o (shape_of o r) e ≡ true = (and_parts _ _ f.1).0 in
-    subst (Lessens o frozen (shape_of o r) (frozen_after frozen e)) (sym (shape_push (empty_shape o) r e))
-    (settles o (shape_of o r) e frozen (guards_from o (empty_shape o) r f.0 (kept_empty o).guards) (has_entries o (empty_shape o) r f.0 (λ x i. absurd i)) fit w few)
+    subst (Lessens (column p) frozen (shape_of (column p) r) (frozen_after frozen e)) (sym (shape_push (empty_shape (column p)) r e)) (lessens p r e frozen legal w few)
+
+pub number_falls : NumberFalls
+number_falls p r e frozen legal w few keys =
+    subst (λ s. to_do (column p) (frozen_after frozen e) s < to_do (column p) frozen (shape_of (column p) r)) (sym (shape_push (empty_shape (column p)) r e))
+    (falls (column p) (shape_of (column p) r) e frozen (entries_stay (column p) (shape_of (column p) r) e (fit p r e frozen legal) (some_entries_live p r e frozen legal)) (lessens p r e frozen legal w few) few keys)
