@@ -12,7 +12,7 @@ use Rattle.guard_level.specs.Guards.{Guards, tables_of}
 use Rattle.version.specs.Levels.{level_at, no_guards}
 use Rattle.version_set.specs.Shapes.{rows_of_guard}
 use Rattle.version_set.specs.Changes.{EachTable}
-use Rattle.version_set.specs.ContentLaws.{AgreeOn, HoldBoth}
+use Rattle.version_set.specs.ContentLaws.{AgreeOn, HoldBoth, LooksHold}
 use Rattle.version_set.specs.Contents.{HoldsContent}
 use Rattle.version_set.proofs.Rows.{in_filtered}
 
@@ -49,3 +49,7 @@ hold_both {T} row holds v guards live content other has agree each = record {
     by n (inr past) guard =
         let gone : level_at v n ≡ no_guards = level_past v.levels n (omega (arith, past, has.count)) in
         subst (λ (g : Guards T). AllByRecursion (HoldsContent row holds other) (tables_of g guard)) (sym gone) tt
+
+pub looks_hold : {T : Type 0} (row : T → TableRow) (holds : T → List Entry → Type 0) → LooksHold row holds
+looks_hold row holds v content zero key each = each.top
+looks_hold row holds v content (suc n) key each = each.deeper n (guard_of key (level_at v n).keys)

@@ -1,11 +1,13 @@
 //! Laws of versions.
 
-ghost use Rattle.version_set.specs.ContentLaws.{HoldBoth};
+ghost use Rattle.version_set.specs.ContentLaws.{HoldBoth, LooksHold};
 
 use peb_base::TableLike;
 
 /// Readings of table numbers that agree on the live rows of a version: where each of its tables
-/// holds what its number stands for by one, each does by the other.
+/// holds what its number stands for by one, each does by the other. So does each table that a
+/// look-up gives.
 pub fn law_contents<T: TableLike>()
-    ensures { HoldBoth T.HasRow.the_row T.HasRow.holds }
+    ensures both { HoldBoth T.HasRow.the_row T.HasRow.holds }
+    ensures looks { LooksHold T.HasRow.the_row T.HasRow.holds }
 {}

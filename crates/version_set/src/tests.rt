@@ -184,6 +184,38 @@ fn guards(rt: &impl Abort, version: &Version<Handle>, level: u8) -> usize {
     version.level(level).keys().len()
 }
 
+/// How many of the tables are led to by another handle too.
+fn held_elsewhere(tables: &mut [Handle]) -> usize {
+    let mut held = 0usize;
+    for table in tables {
+        if Arc::get_mut(table).is_none() {
+            held = held.saturating_add(1);
+        }
+    }
+    held
+}
+
+#[test]
+fn a_table_that_went_is_held_by_earlier_versions_alone(rt: HostRuntime) -> Result<(), Fail> {
+    let alloc = rt.alloc();
+    let options = Options::of(Profile::Small);
+    let mut shape = Shape::new(alloc, &options)?;
+    let mut set = VersionSet::new(alloc, &options)?;
+    let open = Edit::Open { session: 1, log: 1 };
+    make(&rt, alloc, &mut shape, &mut set, &open)?;
+    make(&rt, alloc, &mut shape, &mut set, &flush(alloc, b"o", b"z")?)?;
+    let earlier = set.current()?;
+    let first = move_of(alloc, 0, 0, vec![in alloc; row(alloc, 1, 1, b"o", b"z")?]?)?;
+    let mut gone = make(&rt, alloc, &mut shape, &mut set, &first)?;
+    assert_eq!(rt; (gone.len(), held_elsewhere(&mut gone)), (1, 1));
+    drop(earlier);
+    assert_eq!(rt; held_elsewhere(&mut gone), 0);
+    let second = move_of(alloc, 1, 1, vec![in alloc; row(alloc, 2, 2, b"o", b"z")?]?)?;
+    let mut gone = make(&rt, alloc, &mut shape, &mut set, &second)?;
+    assert_eq!(rt; (gone.len(), held_elsewhere(&mut gone)), (1, 0));
+    Ok(())
+}
+
 #[test]
 fn a_cut_without_inputs_moves_the_table_to_its_guard(rt: HostRuntime) -> Result<(), Fail> {
     let alloc = rt.alloc();
