@@ -4,16 +4,13 @@ use Rattle.std.proofs.lemmas.List.{append-nil, map-append}
 use Rattle.std.proofs.lemmas.Bool.{cases_Bool}
 use Rattle.std.specs.List.{AllByRecursion}
 use Rattle.flsm_model.specs.declared.edit.Edit.{Edit}
-use Rattle.record_log.specs.declared.log_fault.LogFault.{LogFault}
-use Rattle.record_log.specs.declared.log_fault.LogFault.TheVariants as faults
 use Rattle.record_log.specs.declared.record.Record.{Record}
-use Rattle.record_log.specs.Damage.{AtDamage}
 use Rattle.record_log.specs.Groups.{group_bytes, groups_bytes, AreGroups, placed}
 use Rattle.record_log.specs.GroupLaws.{groups-push, placed-push}
 use Rattle.record_log.specs.Records.{view_of, views}
 use Rattle.manifest.specs.Edits.{edit_bytes, IsEdit}
-use Rattle.manifest.specs.GroupOfEdit.{goes_on, StandsAlone, StandsForNone}
-use Rattle.manifest.specs.Manifests.{edit_groups, edits_of, ArePlaced, IsDamagedEdit}
+use Rattle.manifest.specs.GroupOfEdit.{goes_on, StandsAlone, StandsForNone, FirstNoEdit}
+use Rattle.manifest.specs.Manifests.{edit_groups, edits_of, ArePlaced}
 use Rattle.manifest.proofs.Items.{all-push}
 
 -- the place behind the groups of these edits
@@ -124,14 +121,12 @@ reads_more groups found rest behind gate edit so_far alone is =
     }
 
 -- the first group left is no edit's
-pub reads_damage : (groups : List (List (List ℕ))) (found : List (ℕ × Edit)) (rest : List (ℕ × List ℕ)) (gate : ℕ) → AllByRecursion IsEdit (edits_of found) → ReadsSoFar groups found rest → StandsForNone gate rest → IsDamagedEdit groups gate
-reads_damage groups found rest gate each so_far damage =
+pub reads_damage : (groups : List (List (List ℕ))) (found : List (ℕ × Edit)) (rest : List (ℕ × List ℕ)) (gate : ℕ) → ReadsSoFar groups found rest → StandsForNone gate rest → FirstNoEdit groups (edits_of found) gate
+reads_damage groups found rest gate so_far damage =
     let group = the_group groups found rest gate damage.body damage.behind so_far damage.are in
     record {
-      before = edits_of found;
       group = damage.body ∷ group.bodies;
       behind = group.others;
-      each = each;
       whole = group.whole;
       none = λ edit is same. elim damage.none [
         | inl goes ↦ let clash : ◌≡◌ {A = Bool} true false = sym goes ∙ goes_not groups found gate damage.body damage.behind group (ap (drop 1) same) in cc
@@ -161,9 +156,3 @@ views_first (x ∷ records) r some is = ap (λ y. view_of y ∷ views records) (
 pub views_none : (records : List Record) → length records ≡ 0 → views records ≡ []
 views_none [] none = refl
 views_none (r ∷ records) none = absurd (omega (arith, none))
-
--- a fault tells the first group left that is no edit's
-pub at_fault : (groups : List (List (List ℕ))) (found : List (ℕ × Edit)) (rest same : List (ℕ × List ℕ)) (fault : LogFault) → AllByRecursion IsEdit (edits_of found) → ReadsSoFar groups found rest → rest ≡ same → AtDamage fault (λ at. StandsForNone at same) → AtDamage fault (IsDamagedEdit groups)
-at_fault groups found rest same faults.Memory each so_far is damage = tt
-at_fault groups found rest same faults.Fault each so_far is damage = tt
-at_fault groups found rest same (faults.Damaged at) each so_far is damage = reads_damage groups found rest at each so_far (record { body = damage.body; behind = damage.behind; are = is ∙ damage.are; none = damage.none })

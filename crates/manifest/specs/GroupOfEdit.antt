@@ -1,7 +1,9 @@
 -- One group of a manifest, from the records on.
-use Rattle.std.specs.Prelude.{◌≡◌, ◌≢◌, ◌⊎◌, ℕ, Bool, true, false, List, [], ◌∷◌, nat_eq}
+use Rattle.std.specs.Prelude.{◌≡◌, ◌≢◌, ◌⊎◌, ℕ, ◌+◌, Bool, true, false, List, [], ◌∷◌, ◌++◌, length, nat_eq}
 use Rattle.flsm_model.specs.declared.edit.Edit.{Edit}
+use Rattle.record_log.specs.Groups.{groups_bytes}
 use Rattle.manifest.specs.Edits.{edit_bytes, IsEdit}
+use Rattle.manifest.specs.Manifests.{edit_groups}
 
 -- the first record is of the group with this gate
 abbrev pub goes_on : ℕ → List (ℕ × List ℕ) → Bool
@@ -22,3 +24,11 @@ pub record StandsForNone (gate : ℕ) (records : List (ℕ × List ℕ)) : Type 
   pub none : (goes_on gate behind ≡ true)
       ⊎ ((goes_on gate behind ≡ false)
       × ((edit : Edit) → IsEdit edit → body ≢ edit_bytes edit))
+
+-- groups of these edits, and then one that is no edit's: its gate stands at this place of the file
+pub record FirstNoEdit (groups : List (List (List ℕ))) (edits : List Edit) (at : ℕ) : Type 0 where
+  pub group : List (List ℕ)
+  pub behind : List (List (List ℕ))
+  pub whole : groups ≡ edit_groups edits ++ group ∷ behind
+  pub none : (edit : Edit) → IsEdit edit → group ≢ edit_bytes edit ∷ []
+  pub place : at ≡ 24 + length (groups_bytes (edit_groups edits))

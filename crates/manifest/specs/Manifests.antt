@@ -7,8 +7,8 @@ use Rattle.peb_base.specs.declared.profile.Profile.{Profile}
 use Rattle.flsm_model.specs.declared.edit.Edit.{Edit}
 use Rattle.record_log.specs.declared.header.Header.{Header}
 use Rattle.record_log.specs.declared.log_file.LogFile.{LogFile}
-use Rattle.record_log.specs.Groups.{groups_bytes, placed}
-use Rattle.record_log.specs.Log.{IsLog, IsUnfinished, IsDamaged}
+use Rattle.record_log.specs.Groups.{group_bytes, groups_bytes, IsGroup, placed}
+use Rattle.record_log.specs.Log.{Splits, IsLog, IsUnfinished, HasNoHeader}
 use Rattle.record_log.specs.Ready.{IsReady}
 use Rattle.record_log.specs.State.{log_file, log_tail}
 use Rattle.manifest.specs.declared.manifest_file.Manifest.{Manifest}
@@ -48,27 +48,28 @@ abbrev pub ArePlaced : List (ℕ × Edit) → Type 0
 ArePlaced found =
     map (λ p. (p.0, edit_bytes p.1)) found ≡ placed 24 (edit_groups (edits_of found))
 
--- a group is no edit's: it has several records, or none of an edit
-abbrev pub IsNoEditGroup : List (List ℕ) → Type 0
-IsNoEditGroup group = (edit : Edit) → IsEdit edit → group ≢ edit_bytes edit ∷ []
+-- no group of one edit stands at the front, with a gate behind it
+abbrev pub IsNoEditGroup : List ℕ → Type 0
+IsNoEditGroup bytes = (edit : Edit) (gate : ℕ) (rest : List ℕ) → IsEdit edit
+    → IsGroup (edit_bytes edit ∷ []) → bytes ≢ group_bytes (edit_bytes edit ∷ []) ++ gate ∷ rest
 
--- groups of edits, and then one that is no edit's, whose gate stands at this place of the file
-pub record IsDamagedEdit (groups : List (List (List ℕ))) (at : ℕ) : Type 0 where
-  pub before : List Edit
-  pub group : List (List ℕ)
-  pub behind : List (List (List ℕ))
-  pub each : AllByRecursion IsEdit before
-  pub whole : groups ≡ edit_groups before ++ group ∷ behind
-  pub none : IsNoEditGroup group
-  pub place : at ≡ 24 + length (groups_bytes (edit_groups before))
+-- the file holds these edits, and behind them, at this place, an open gate without a group of one
+-- edit
+pub record IsDamagedBehind (profile : Profile) (edits : List Edit) (found : Option (List ℕ))
+    (at : ℕ) : Type 0 where
+  pub rest : List ℕ
+  pub bytes : List ℕ
+  pub holds : found ≡ Some bytes
+  pub each : AllByRecursion IsEdit edits
+  pub splits : Splits ManifestA bytes (manifest_header profile) (edit_groups edits) (1 ∷ rest)
+  pub none : IsNoEditGroup (1 ∷ rest)
+  pub place : at ≡ 24 + length (groups_bytes (edit_groups edits))
 
--- the first place that isn't in form: as of every file of groups, and where these are in form, the
--- gate of the first group that is no edit's
+-- the first place that isn't in form: 0 for the header, and else, behind all groups of one edit,
+-- the gate of the first group that is none
 abbrev pub IsDamagedManifest : Option (List ℕ) → ℕ → Type 0
-IsDamagedManifest found at =
-    ((bytes : List ℕ) × (found ≡ Some bytes) × IsDamaged ManifestA bytes at)
-    ⊎ ((profile : Profile) × (groups : List (List (List ℕ)))
-    × IsLog ManifestA (manifest_header profile) groups found × IsDamagedEdit groups at)
+IsDamagedManifest found at = ((at ≡ 0) × HasNoHeader ManifestA found)
+    ⊎ ((profile : Profile) × (edits : List Edit) × IsDamagedBehind profile edits found at)
 
 -- the file that the manifest is written to
 abbrev pub manifest_log : Manifest → LogFile

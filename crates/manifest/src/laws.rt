@@ -14,14 +14,16 @@ pub fn one_edit()
 {}
 
 /// What a manifest's file holds is determined by its bytes: one list of edits in one profile, and
-/// then no damage.
+/// then no damage, or one first place of damage.
 pub fn one_manifest()
     ensures one_list { (found : Option (List ℕ)) (a b : Profile) (first second : List Edit)
         → IsManifest a first found → IsManifest b second found
         → (a ≡ b) × (first ≡ second) }
     ensures undamaged { (found : Option (List ℕ)) (profile : Profile) (edits : List Edit) (at : ℕ)
         → IsManifest profile edits found → IsDamagedManifest found at → ⊥ }
+    ensures one_damage { (found : Option (List ℕ)) (m n : ℕ)
+        → IsDamagedManifest found m → IsDamagedManifest found n → m ≡ n }
 {
-    // One header and one list of groups for these bytes, and no damage beside them.
+    // One header and one list of groups for these bytes.
     one_reading();
 }

@@ -241,6 +241,39 @@ fn damage_is_told_at_the_gate_of_its_group(rt: HostRuntime) -> Result<(), Fail> 
     Ok(())
 }
 
+/// How many edits stand before the first damage, and its place, if there is any.
+fn front_of(alloc: Global, bytes: &[u8]) -> Result<(usize, Option<u64>), Fail> {
+    let devices = MemDevices::new(alloc, Plans::empty(alloc))?;
+    let mut devices = devices.with_file(JournalFile::ManifestA, bytes)?;
+    let mut journal = devices.journal()?;
+    let found = Manifest::replay_front(alloc, &mut journal)?;
+    let front = found.ok_or("no manifest")?;
+    let count = front.edits.items().len();
+    let place = match front.manifest {
+        Ok(_) => None,
+        Err(at) => Some(at),
+    };
+    devices.back(journal);
+    Ok((count, place))
+}
+
+#[test]
+fn of_two_damages_the_first_is_told(rt: HostRuntime) -> Result<(), Fail> {
+    let alloc = rt.alloc();
+    // Groups of the same edit at 24, 50 and 76.
+    let mut bytes = MANIFEST[..50].to_vec(alloc)?;
+    bytes.extend_from_slice(&MANIFEST[24..50])?;
+    bytes.extend_from_slice(&MANIFEST[24..])?;
+    assert_eq!(rt; front_of(alloc, &bytes)?, (3, None));
+    // The last has another length, then the second an edit of no kind, then the first.
+    for (at, value, count, place) in [(80, 20, 2, 76), (59, 9, 1, 50), (33, 9, 0, 24)] {
+        bytes[at] = value;
+        assert_eq!(rt; replayed(alloc, &bytes)?, Told::Damaged(place));
+        assert_eq!(rt; front_of(alloc, &bytes)?, (count, Some(place)));
+    }
+    Ok(())
+}
+
 /// Whether an append fails whose journal fails at this call, the first being 1, and how many edits
 /// a crash leaves then. The first seven create the manifest.
 fn failing_append(alloc: Global, call: u64, pick: Pick) -> Result<(bool, Told), Fail> {

@@ -5,7 +5,7 @@ use Rattle.byteorder.specs.Endian.{big_bytes}
 use Rattle.byteorder.specs.Numbers.{length-bytes_high_first}
 use Rattle.record_log.specs.Frame.{framed, records_in}
 use Rattle.record_log.specs.Groups.{record_bytes}
-use Rattle.record_log.proofs.Numbers.{length-record}
+use Rattle.record_log.specs.GroupLaws.{length-record}
 
 pub length-framed : (records : List ℕ) → length (framed records) ≡ length records + 5
 length-framed records = omega (arith, length-append (record_bytes records) (0 ∷ []), length-record records)

@@ -48,6 +48,27 @@ pub record Holds (file : JournalFile) (header : Header) (records : List (ℕ
   pub log : IsLog file header groups found
   pub given : records ≡ placed 24 groups
 
+-- the file holds this header and these records of groups, and behind them, at this place, an open
+-- gate without a group
+pub record BreaksOff (file : JournalFile) (header : Header) (records : List (ℕ × List ℕ))
+    (found : Option (List ℕ)) (at : ℕ) : Type 0 where
+  pub groups : List (List (List ℕ))
+  pub rest : List ℕ
+  pub bytes : List ℕ
+  pub holds : found ≡ Some bytes
+  pub splits : Splits file bytes header groups (1 ∷ rest)
+  pub none : IsNoGroup (1 ∷ rest)
+  pub given : records ≡ placed 24 groups
+  pub place : at ≡ 24 + length (groups_bytes groups)
+
+-- the file was created to its end, but no header of it stands at its front
+pub record HasNoHeader (file : JournalFile) (found : Option (List ℕ)) : Type 0 where
+  pub bytes : List ℕ
+  pub holds : found ≡ Some bytes
+  pub long : 25 ≤ length bytes
+  pub made : get_or bytes 0 0 ≡ 1
+  pub none : (header : Header) → IsHeaderOf file header → take 24 bytes ≢ header_bytes header
+
 -- the place of the closed gate behind all groups that the file holds
 abbrev pub IsPlaceBehind : JournalFile → Header → Option (List ℕ) → ℕ → Type 0
 IsPlaceBehind file header found place = (groups : List (List (List ℕ)))

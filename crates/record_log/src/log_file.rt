@@ -8,13 +8,14 @@ ghost use Rattle.record_log.specs.Crash.{Creates};
 ghost use Rattle.record_log.specs.Damage.{AtDamage};
 ghost use Rattle.record_log.specs.Groups.{record_bytes, records_bytes, with_group};
 ghost use Rattle.record_log.specs.Header.{IsHeaderOf};
-ghost use Rattle.record_log.specs.Log.{Holds, IsDamaged, IsLog, IsUnfinished};
+ghost use Rattle.record_log.specs.Log.{Holds, BreaksOff, HasNoHeader, IsDamaged, IsLog, IsUnfinished};
 ghost use Rattle.record_log.specs.Records.{views};
 
 use crate::add_fault::AddFault;
 use crate::header::{Header, new_file};
 use crate::log_fault::LogFault;
-use crate::reading::read_log;
+use crate::log_front::LogFront;
+use crate::reading::{GroupsRead, read_log};
 use crate::record::Record;
 use crate::steps::{begin_file, open_gate, put_behind, read_whole};
 use crate::tail::Tail;
@@ -158,19 +159,93 @@ impl LogFile {
             (J.left_since journal.old) (J.left_since journal.new) }
         ensures steady { J.steady journal.old → J.steady journal.new }
     {
+        match LogFile::read_front(alloc, journal, file) {
+            Ok(Some(front)) => match whole_log(front) {
+                Ok(whole) => Ok(Some(whole)),
+                Err(fault) => Err(fault),
+            },
+            Ok(None) => Ok(None),
+            Err(fault) => Err(fault),
+        }
+    }
+
+    /// Syncs the file and reads it up to the first group that isn't in form. What it gives of the
+    /// groups before is what `resume` would give, were that gate closed; and where all groups are
+    /// in form, it gives the log as that does.
+    ///
+    /// `None` tells that the file isn't there or wasn't created to its end. `Damaged` tells that
+    /// no header stands at its front, and its place is 0. `Fault` tells that the journal failed.
+    /// Nothing is changed; after `Ok` every crash leaves the file as it was read.
+    pub fn read_front<J: Journal>(
+        alloc: Global,
+        journal: &mut J,
+        file: JournalFile,
+    ) -> Result<Option<LogFront>, LogFault>
+        // what it gives
+        ensures found { IfOk result (λ found. IfSome found (λ front. IfOk front.log
+            (λ log. IsTrue J.tells → Holds file front.header (views front.records.items)
+            (J.seen journal.old file)))) }
+        ensures broken { IfOk result (λ found. IfSome found (λ front. IfErr front.log
+            (λ at. IsTrue J.tells → BreaksOff file front.header (views front.records.items)
+            (J.seen journal.old file) at))) }
+        ensures ready { IfOk result (λ found. IfSome found (λ front. IfOk front.log
+            (λ log. (groups : List (List (List ℕ))) → IsTrue J.tells
+            → IsLog file front.header groups (J.seen journal.old file)
+            → IsReady J.tells J.seen J.may_leave journal.new log front.header groups))) }
+        ensures file { IfOk result (λ found. IfSome found (λ front. IfOk front.log
+            (λ log. log_file log ≡ file))) }
+        ensures empty { IfOk result (λ found. IfSome found (λ front. IfOk front.log
+            (λ log. log_tail log ≡ []))) }
+        ensures header { IfOk result (λ found. IfSome found
+            (λ front. IsHeaderOf file front.header)) }
+        ensures absent { IfOk result (λ found. IfNone found (IsTrue J.tells
+            → IsUnfinished (J.seen journal.old file))) }
+        // when it fails
+        ensures damaged { IfErr result (λ fault. AtDamage fault (λ at. (at ≡ 0)
+            × (IsTrue J.tells → HasNoHeader file (J.seen journal.old file)))) }
+        ensures fault { IsErrOf result LogFault.Fault
+            → Rose (J.faults journal.old) (J.faults journal.new) }
+        ensures never_falls { J.faults journal.old ≤ J.faults journal.new }
+        // what it leaves
+        ensures kept { OnOk result (Keeps file (J.seen journal.old file)
+            (J.may_leave journal.new)) }
+        ensures seen { J.seen journal.new ≡ J.seen journal.old }
+        ensures any_moment { Follows (In file Stays) (J.may_leave journal.old)
+            (J.left_since journal.new (J.moment journal.old)) }
+        ensures time { Elapses (J.moment journal.old) (J.moment journal.new)
+            (J.left_since journal.old) (J.left_since journal.new) }
+        ensures steady { J.steady journal.old → J.steady journal.new }
+    {
         let bytes = match read_whole(alloc, journal, file) {
             Ok(Some(bytes)) => bytes,
             Ok(None) => return Ok(None),
             Err(fault) => return Err(fault),
         };
-        let (header, records, place) = match read_log(alloc, file, &bytes) {
-            Ok(Some(read)) => read,
+        let (header, read) = match read_log(alloc, file, &bytes) {
+            Ok(Some(found)) => found,
             Ok(None) => return Ok(None),
             Err(fault) => return Err(fault),
         };
+        let GroupsRead {
+            records,
+            place,
+            is_closed,
+        } = read;
+        if !is_closed {
+            let log = Err(place);
+            return Ok(Some(LogFront {
+                header,
+                records,
+                log,
+            }));
+        }
         let tail = Tail::new(alloc)?;
         let log = LogFile { file, place, tail };
-        Ok(Some((log, header, records)))
+        Ok(Some(LogFront {
+            header,
+            records,
+            log: Ok(log),
+        }))
     }
 
     /// The bytes of the records that wait, four for the length of each among them.
@@ -255,5 +330,24 @@ impl LogFile {
         self.place += 5 + len as u64;
         self.tail.clear();
         Ok(())
+    }
+}
+
+/// The log of a file all of whose groups are in form. `Damaged` tells the gate of the first that
+/// isn't.
+fn whole_log(front: LogFront) -> Result<(LogFile, Header, Vec<Record>), LogFault>
+    ensures whole { IfOk result (λ log. (front.log ≡ Ok log.0) × (front.header ≡ log.1)
+        × (front.records ≡ log.2)) }
+    ensures broken { IfErr result (λ fault. (at : ℕ) × (fault ≡ LogFault.Damaged at)
+        × (front.log ≡ Err at)) }
+{
+    let LogFront {
+        header,
+        records,
+        log,
+    } = front;
+    match log {
+        Ok(log) => Ok((log, header, records)),
+        Err(at) => Err(LogFault::Damaged { at }),
     }
 }

@@ -73,6 +73,30 @@ fn the_log_of_one_put_is_read(rt: HostRuntime) -> Result<(), Fail> {
     Ok(())
 }
 
+#[test]
+fn a_log_is_read_up_to_its_first_broken_group(rt: HostRuntime) -> Result<(), Fail> {
+    let alloc = rt.alloc();
+    // Groups of the same batch at 24 and 52; the second has another length.
+    let mut bytes = LOG[..52].to_vec(alloc)?;
+    bytes.extend_from_slice(&LOG[24..])?;
+    assert_eq!(rt; opened(alloc, &bytes)?, Told::Records(2));
+    bytes[56] = 22;
+    assert_eq!(rt; opened(alloc, &bytes)?, Told::Damaged(52));
+    let devices = MemDevices::new(alloc, Plans::empty(alloc))?;
+    let mut devices = devices.with_file(JournalFile::Log(1), &bytes)?;
+    let mut journal = devices.journal()?;
+    let found = LogFile::read_front(alloc, &mut journal, JournalFile::Log(1))?;
+    let front = found.ok_or("no log")?;
+    assert_eq!(rt; front.records.len(), 1);
+    assert_eq!(rt; front.records[0].gate, 24);
+    let place = match front.log {
+        Ok(_) => None,
+        Err(at) => Some(at),
+    };
+    assert_eq!(rt; place, Some(52));
+    Ok(())
+}
+
 /// Reads a log, and closes a group of a record with this body behind what was read: how many
 /// records that were.
 fn grown<J: Journal>(alloc: Global, journal: &mut J, body: &[u8]) -> Result<usize, Fail> {

@@ -3,7 +3,7 @@ use Rattle.byteorder.specs.Endian.{big_bytes}
 use Rattle.record_log.specs.Frame.{records_in}
 use Rattle.record_log.specs.Groups.{record_bytes}
 use Rattle.record_log.proofs.Frames.{frame_after, in_frame, is_framed, length-framed, length-framed_in}
-use Rattle.record_log.proofs.Numbers.{length-record}
+use Rattle.record_log.specs.GroupLaws.{length-record}
 use Rattle.record_log.proofs.tail.Tail.push.Goals as goal
 
 pub invariant_of-self-2 : goal.invariant_of-self-2
