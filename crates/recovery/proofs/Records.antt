@@ -1,6 +1,6 @@
 -- What the edits of a manifest are folded to.
-use Rattle.std.specs.Prelude.{IfSome}
-use Rattle.std.proofs.Common.{◌≡◌, ◌≢◌, ℕ, suc, ◌+◌, ◌<◌, ◌≤◌, Bool, true, false, IsTrue, List, [], ◌∷◌, ◌++◌, map, length, take, drop, get_or, Option, None, Some, refl, sym, ap, ◌∙◌, subst, arith, length-append, inl, inr}
+use Rattle.std.specs.Prelude.{IfSome, IfOk, IfErr, IsOk}
+use Rattle.std.proofs.Common.{◌≡◌, ◌≢◌, ℕ, suc, ◌+◌, ◌<◌, ◌≤◌, Bool, true, false, IsTrue, List, [], ◌∷◌, ◌++◌, map, length, take, drop, get_or, Option, None, Some, Result, Ok, Err, refl, sym, ap, ◌∙◌, subst, arith, length-append, inl, inr}
 use Rattle.std.proofs.lemmas.List.{take_more, take-append-drop, map-append as map_append}
 use Rattle.std.proofs.Math.Seq.{drop-cons}
 use Rattle.peb_base.specs.declared.profile.Profile.{Profile}
@@ -12,7 +12,7 @@ use Rattle.record_log.specs.declared.log_fault.LogFault.{LogFault}
 use Rattle.record_log.specs.declared.log_fault.LogFault.TheVariants as logs
 use Rattle.record_log.specs.Damage.{AtDamage}
 use Rattle.record_log.specs.Groups.{group_bytes, groups_bytes, placed}
-use Rattle.record_log.specs.Log.{IsUnfinished}
+use Rattle.record_log.specs.Log.{HasNoHeader, IsUnfinished}
 use Rattle.flsm_model.specs.declared.edit.Edit.{Edit}
 use Rattle.flsm_model.specs.Fits.{is_legal_record, IsShapeOf, GoesOn}
 use Rattle.flsm_model.specs.Shape.{Record, Shape}
@@ -20,10 +20,10 @@ use Rattle.manifest.specs.Edits.{edit_bytes}
 use Rattle.manifest.specs.declared.append_fault.AppendFault.{AppendFault}
 use Rattle.manifest.specs.declared.append_fault.AppendFault.TheVariants as appends
 use Rattle.manifest.specs.declared.manifest_file.Manifest.{Manifest}
-use Rattle.manifest.specs.Manifests.{IsManifest, IsDamagedManifest, IsReadyManifest, IsUnspent, IsBeforeOrAfterEdit, CreatesManifest, edit_groups, edits_of, ArePlaced}
+use Rattle.manifest.specs.Manifests.{IsManifest, IsDamagedBehind, IsReadyManifest, IsUnspent, IsBeforeOrAfterEdit, CreatesManifest, edit_groups, edits_of, ArePlaced}
 use Rattle.recovery.specs.declared.open_fault.OpenFault.{OpenFault}
 use Rattle.recovery.specs.declared.open_fault.OpenFault.TheVariants as opens
-use Rattle.recovery.specs.Record.{IsFirstMisfit, HoldsMisfit, FoldCause, RecordCause, IsReadyRecord, Records, RecordingCause, append_fault, record_fault, session_of_record}
+use Rattle.recovery.specs.Record.{IsFirstMisfit, BeginsWithEdits, HoldsMisfit, FoldCause, RecordCause, IsReadyRecord, Records, RecordingCause, append_fault, record_fault, session_of_record}
 
 -- ---- one edit more
 
@@ -76,15 +76,15 @@ place_of from at (p ∷ before) edit behind is =
     let rest = place_of (from + length (group_bytes group)) at before edit behind (later_places _ _ _ _ is) in
     omega (arith, rest, length-append (group_bytes group) (groups_bytes (edit_groups (edits_of before))))
 
--- so the file holds it there
-pub misfit_in : (have : Profile) (found : List (ℕ × Edit)) (at : ℕ) (file : Option (List ℕ)) → IsManifest have (edits_of found) file → ArePlaced found
+-- so the file begins with it there
+pub misfit_in : (have : Profile) (found : List (ℕ × Edit)) (at : ℕ) (file : Option (List ℕ)) → BeginsWithEdits have (edits_of found) file → ArePlaced found
     → IsFirstMisfit (column have) found at → HoldsMisfit file at
-misfit_in have found at file holds placed first = record {
+misfit_in have found at file begins placed first = record {
   profile = have;
   before = edits_of first.before;
   edit = first.edit;
   behind = edits_of first.behind;
-  holds = subst (λ (es : Record). IsManifest have es file) (ap edits_of first.split ∙ map_append (λ (p : ℕ × Edit). p.1) first.before ((at, first.edit) ∷ first.behind)) holds;
+  begins = subst (λ (es : Record). BeginsWithEdits have es file) (ap edits_of first.split ∙ map_append (λ (p : ℕ × Edit). p.1) first.before ((at, first.edit) ∷ first.behind)) begins;
   legal = first.legal;
   misfit = first.misfit;
   place = place_of 24 at first.before first.edit first.behind (subst ArePlaced first.split placed);
@@ -92,30 +92,60 @@ misfit_in have found at file holds placed first = record {
 
 -- ---- causes
 
-pub fold_cause : (rose : Type 0) (tells : Bool) (file : Option (List ℕ)) (asked have : Profile) (found : List (ℕ × Edit)) (fault : OpenFault) → (IsTrue tells → IsManifest have (edits_of found) file) → (IsTrue tells → ArePlaced found)
-    → FoldCause asked have found fault → RecordCause rose tells file asked fault
-fold_cause rose tells file asked have found opens.Journal holds placed cause = absurd cause
-fold_cause rose tells file asked have found (opens.Damaged name at) holds placed cause = (cause.0, λ told. inr (misfit_in have found at file (holds told) (placed told) cause.1))
-fold_cause rose tells file asked have found (opens.Profile mine yours) holds placed cause = (
+-- a fact on what a result holds
+pub ok_of : {T E : Type 0} (r : Result T E) (x : T) (P : T → Type 0) → r ≡ Ok x → IfOk r P → P x
+ok_of r x P is fact = subst (λ s. IfOk s P) is fact
+
+-- a manifest that was read, and where it was damaged behind its edits, where the journal tells
+pub record ReadUpTo (tells : Bool) (have : Profile) (edits : Record) (manifest : Result Manifest ℕ) (file : Option (List ℕ)) : Type 0 where
+  pub whole : IfOk manifest (λ m. IsTrue tells → IsManifest have edits file)
+  pub broken : IfErr manifest (λ at. IsTrue tells → IsDamagedBehind have edits file at)
+
+begins_with : (tells : Bool) (have : Profile) (edits : Record) (manifest : Result Manifest ℕ) (file : Option (List ℕ)) → ReadUpTo tells have edits manifest file → IsTrue tells → BeginsWithEdits have edits file
+begins_with tells have edits (Ok m) file read told = inl (read.whole told)
+begins_with tells have edits (Err at) file read told = inr (at, read.broken told)
+
+is_whole : (tells : Bool) (have : Profile) (edits : Record) (manifest : Result Manifest ℕ) (file : Option (List ℕ)) → ReadUpTo tells have edits manifest file → IsOk manifest → IsTrue tells → IsManifest have edits file
+is_whole tells have edits (Ok m) file read ok told = read.whole told
+is_whole tells have edits (Err at) file read ok told = absurd (let clash : ◌≡◌ {A = Bool} false true = ok in cc)
+
+is_broken : (tells : Bool) (have : Profile) (edits : Record) (manifest : Result Manifest ℕ) (file : Option (List ℕ)) (at : ℕ) → ReadUpTo tells have edits manifest file → manifest ≡ Err at → IsTrue tells → IsDamagedBehind have edits file at
+is_broken tells have edits manifest file at read is told =
+    let own : IfErr {T = Manifest} (Err at) (λ a. IsTrue tells → IsDamagedBehind have edits file a) = subst (λ (r : Result Manifest ℕ). IfErr r (λ a. IsTrue tells → IsDamagedBehind have edits file a)) is read.broken in own told
+
+pub fold_cause : (rose : Type 0) (tells : Bool) (file : Option (List ℕ)) (asked have : Profile) (found : List (ℕ × Edit)) (manifest : Result Manifest ℕ) (fault : OpenFault) → ReadUpTo tells have (edits_of found) manifest file → (IsTrue tells → ArePlaced found)
+    → FoldCause asked have found manifest fault → RecordCause rose tells file asked fault
+fold_cause rose tells file asked have found manifest opens.Journal read placed cause = absurd cause
+fold_cause rose tells file asked have found manifest (opens.Damaged name at) read placed (is, inl misfit) =
+    (is, λ told. inr (inl (misfit_in have found at file (begins_with tells have (edits_of found) manifest file read told) (placed told) misfit)))
+fold_cause rose tells file asked have found manifest (opens.Damaged name at) read placed (is, inr broken) =
+    (is, λ told. inr (inr (have, edits_of found, is_broken tells have (edits_of found) manifest file at read broken.0 told, broken.1)))
+fold_cause rose tells file asked have found manifest (opens.Profile mine yours) read placed cause = (
   cause.1,
   subst (λ (p : Profile). p ≢ asked) (sym cause.0) cause.2,
-  λ told. (edits_of found, subst (λ (p : Profile). IsManifest p (edits_of found) file × (is_legal_record (column p) (edits_of found) ≡ true)) (sym cause.0) (holds told, cause.3)),
+  λ told. (
+    edits_of found,
+    subst (λ (p : Profile). IsManifest p (edits_of found) file × (is_legal_record (column p) (edits_of found) ≡ true)) (sym cause.0) (is_whole tells have (edits_of found) manifest file read cause.3 told, cause.4),
+  ),
 )
-fold_cause rose tells file asked have found (opens.Limit kind n) holds placed cause = (
+fold_cause rose tells file asked have found manifest (opens.Limit kind n) read placed cause = (
   cause.0,
   cause.1,
   λ told. (
     edits_of found,
-    (subst (λ (p : Profile). IsManifest p (edits_of found) file) cause.2 (holds told), subst (λ (p : Profile). is_legal_record (column p) (edits_of found) ≡ true) cause.2 cause.3),
-    subst (λ (p : Profile). 8388607 ≤ session_of_record p (edits_of found)) cause.2 cause.4,
+    (
+      subst (λ (p : Profile). IsManifest p (edits_of found) file) cause.2 (is_whole tells have (edits_of found) manifest file read cause.3 told),
+      subst (λ (p : Profile). is_legal_record (column p) (edits_of found) ≡ true) cause.2 cause.4,
+    ),
+    subst (λ (p : Profile). 8388607 ≤ session_of_record p (edits_of found)) cause.2 cause.5,
   ),
 )
-fold_cause rose tells file asked have found opens.Memory holds placed cause = tt
+fold_cause rose tells file asked have found manifest opens.Memory read placed cause = tt
 
-pub replay_cause : (rose : Type 0) (tells : Bool) (file : Option (List ℕ)) (asked : Profile) (fault : LogFault) → (fault ≡ logs.Fault → rose) → (IsTrue tells → AtDamage fault (IsDamagedManifest file))
+pub replay_cause : (rose : Type 0) (tells : Bool) (file : Option (List ℕ)) (asked : Profile) (fault : LogFault) → (fault ≡ logs.Fault → rose) → AtDamage fault (λ at. (at ≡ 0) × (IsTrue tells → HasNoHeader ManifestA file))
     → RecordCause rose tells file asked (record_fault fault)
 replay_cause rose tells file asked logs.Fault cause damage = cause refl
-replay_cause rose tells file asked (logs.Damaged at) cause damage = (refl, λ told. inl (damage told))
+replay_cause rose tells file asked (logs.Damaged at) cause damage = (refl, λ told. inl (damage.0, damage.1 told))
 replay_cause rose tells file asked logs.Memory cause damage = tt
 
 -- the same of a file that is read the same, and of a journal that rose for another reason

@@ -1,5 +1,5 @@
 -- The record that a manifest's file holds.
-use Rattle.std.specs.Prelude.{◌≡◌, ◌≢◌, ◌⊎◌, ℕ, ◌+◌, ◌≤◌, Bool, true, false, IsTrue, List, [], ◌∷◌, ◌++◌, length, Option, None, Some}
+use Rattle.std.specs.Prelude.{◌≡◌, ◌≢◌, ◌⊎◌, ℕ, ◌+◌, ◌≤◌, Bool, true, false, IsTrue, List, [], ◌∷◌, ◌++◌, length, Option, None, Some, Result, Err, IsOk}
 use Rattle.peb_base.specs.declared.file_name.FileName.TheVariants as names
 use Rattle.peb_base.specs.declared.limit_kind.LimitKind.TheVariants as kinds
 use Rattle.peb_base.specs.declared.profile.Profile.{Profile}
@@ -10,14 +10,14 @@ use Rattle.disk_model.specs.declared.journal_file.JournalFile.TheVariants.{Manif
 use Rattle.record_log.specs.declared.log_fault.LogFault.{LogFault}
 use Rattle.record_log.specs.declared.log_fault.LogFault.TheVariants as logs
 use Rattle.record_log.specs.Groups.{groups_bytes}
-use Rattle.record_log.specs.Log.{IsUnfinished}
+use Rattle.record_log.specs.Log.{HasNoHeader, IsUnfinished}
 use Rattle.flsm_model.specs.declared.edit.Edit.{Edit}
 use Rattle.flsm_model.specs.Fits.{is_legal_record}
 use Rattle.flsm_model.specs.Shape.{Record, shape_of}
 use Rattle.manifest.specs.declared.append_fault.AppendFault.{AppendFault}
 use Rattle.manifest.specs.declared.append_fault.AppendFault.TheVariants as appends
 use Rattle.manifest.specs.declared.manifest_file.Manifest.{Manifest}
-use Rattle.manifest.specs.Manifests.{IsManifest, IsDamagedManifest, IsReadyManifest, edit_groups, edits_of}
+use Rattle.manifest.specs.Manifests.{IsManifest, IsDamagedBehind, IsReadyManifest, edit_groups, edits_of}
 use Rattle.recovery.specs.declared.open_fault.OpenFault.{OpenFault}
 use Rattle.recovery.specs.declared.open_fault.OpenFault.TheVariants as opens
 
@@ -46,21 +46,33 @@ pub record IsFirstMisfit (o : Column) (found : List (ℕ × Edit)) (at : ℕ) : 
   pub legal : is_legal_record o (edits_of before) ≡ true
   pub misfit : is_legal_record o (edits_of before ++ edit ∷ []) ≡ false
 
--- the file holds a manifest, and the gate of its first edit that doesn't fit those before it stands
--- at this place
+-- the file begins with these edits: it holds them up to a closed gate, or is damaged behind them
+abbrev pub BeginsWithEdits : Profile → Record → Option (List ℕ) → Type 0
+BeginsWithEdits profile edits found = IsManifest profile edits found
+    ⊎ ((at : ℕ) × IsDamagedBehind profile edits found at)
+
+-- the file begins with edits, and the gate of the first that doesn't fit those before it stands at
+-- this place
 pub record HoldsMisfit (found : Option (List ℕ)) (at : ℕ) : Type 0 where
   pub profile : Profile
   pub before : Record
   pub edit : Edit
   pub behind : Record
-  pub holds : IsManifest profile (before ++ edit ∷ behind) found
+  pub begins : BeginsWithEdits profile (before ++ edit ∷ behind) found
   pub legal : is_legal_record (column profile) before ≡ true
   pub misfit : is_legal_record (column profile) (before ++ edit ∷ []) ≡ false
   pub place : at ≡ 24 + length (groups_bytes (edit_groups before))
 
--- the first place that isn't in form, or where all edits are, the gate of the first that doesn't fit
+-- the file is damaged at this place, behind edits that fit one another
+abbrev pub IsDamagedBehindLegal : Option (List ℕ) → ℕ → Type 0
+IsDamagedBehindLegal found at = (profile : Profile) × (edits : Record)
+    × IsDamagedBehind profile edits found at × (is_legal_record (column profile) edits ≡ true)
+
+-- the first place that isn't in form or doesn't fit: 0 for the header, else the gate of the first
+-- edit that doesn't fit those before it, or of the first group that is no edit's
 abbrev pub IsDamagedRecord : Option (List ℕ) → ℕ → Type 0
-IsDamagedRecord found at = IsDamagedManifest found at ⊎ HoldsMisfit found at
+IsDamagedRecord found at = ((at ≡ 0) × HasNoHeader ManifestA found)
+    ⊎ (HoldsMisfit found at ⊎ IsDamagedBehindLegal found at)
 
 -- ---- why a record isn't taken
 
@@ -72,19 +84,21 @@ MisfitCause o found opens.Journal = ⊥
 MisfitCause o found (opens.Profile have asked) = ⊥
 MisfitCause o found (opens.Limit kind n) = ⊥
 
--- why the edits that a manifest of this profile holds aren't taken by an opening in another
-abbrev pub FoldCause : Profile → Profile → List (ℕ × Edit) → OpenFault → Type 0
-FoldCause asked have found opens.Journal = ⊥
-FoldCause asked have found (opens.Damaged file at) =
-    (file ≡ names.ManifestA) × IsFirstMisfit (column have) found at
-FoldCause asked have found (opens.Profile mine yours) =
-    (mine ≡ have) × (yours ≡ asked) × (have ≢ asked)
+-- why the edits that a file of this profile begins with aren't taken by an opening in another, where
+-- all of the file is a manifest, or the first damage behind them stands at a place
+abbrev pub FoldCause : Profile → Profile → List (ℕ × Edit) → Result Manifest ℕ → OpenFault → Type 0
+FoldCause asked have found manifest opens.Journal = ⊥
+FoldCause asked have found manifest (opens.Damaged file at) =
+    (file ≡ names.ManifestA) × (IsFirstMisfit (column have) found at
+    ⊎ ((manifest ≡ Err at) × (is_legal_record (column have) (edits_of found) ≡ true)))
+FoldCause asked have found manifest (opens.Profile mine yours) =
+    (mine ≡ have) × (yours ≡ asked) × (have ≢ asked) × IsOk manifest
     × (is_legal_record (column have) (edits_of found) ≡ true)
-FoldCause asked have found (opens.Limit kind n) =
-    (kind ≡ kinds.Openings) × (n ≡ 8388607) × (have ≡ asked)
+FoldCause asked have found manifest (opens.Limit kind n) =
+    (kind ≡ kinds.Openings) × (n ≡ 8388607) × (have ≡ asked) × IsOk manifest
     × (is_legal_record (column have) (edits_of found) ≡ true)
     × (8388607 ≤ session_of_record have (edits_of found))
-FoldCause asked have found opens.Memory = Unit {0}
+FoldCause asked have found manifest opens.Memory = Unit {0}
 
 -- what the fault of the manifest's file means to an opening
 abbrev pub record_fault : LogFault → OpenFault

@@ -1,6 +1,6 @@
 //! The store's record, as its manifest keeps it.
 
-ghost use Rattle.std.specs.Prelude.{◌≡◌, ◌≤◌, ◌<◌, [], Some, None, IsTrue, IfOk, IfErr, IfSome, OnOk};
+ghost use Rattle.std.specs.Prelude.{◌≡◌, ◌≤◌, ◌<◌, [], Some, None, Ok, IsTrue, IfOk, IfErr, IfSome, OnOk};
 ghost use Rattle.peb_base.specs.Profiles.{column};
 ghost use Rattle.disk_model.specs.Images.{Keeps, Rose};
 ghost use Rattle.disk_model.specs.Told.{told_by};
@@ -9,6 +9,7 @@ ghost use Rattle.record_log.specs.Log.{IsUnfinished};
 ghost use Rattle.flsm_model.specs.Fields.{fields_of};
 ghost use Rattle.flsm_model.specs.Fits.{IsShapeOf};
 ghost use Rattle.flsm_model.specs.Shape.{Record};
+ghost use Rattle.manifest.specs.declared.manifest_file.Manifest.{Manifest};
 ghost use Rattle.manifest.specs.Manifests.{IsManifest, IsReadyManifest, IsUnspent, edits_of};
 ghost use Rattle.recovery.specs.Opening.{HasWatched};
 ghost use Rattle.recovery.specs.Record.{HoldsRecord, MisfitCause, FoldCause, RecordCause, IsReadyRecord, record_fault};
@@ -19,7 +20,7 @@ use crate::open_fault::OpenFault;
 use crate::syncing::sync_file;
 use disk_model::{Journal, JournalFile};
 use flsm_model::{Edit, Shape};
-use manifest::{Manifest, Replayed, one_manifest};
+use manifest::{Manifest, ManifestFront};
 use peb_base::{FileName, LimitKind, Options, Profile};
 use record_log::LogFault;
 use std::alloc::Global;
@@ -68,25 +69,31 @@ fn fold(alloc: Global, options: &Options, edits: &[(u64, Edit)]) -> Result<Shape
     Ok(shape)
 }
 
-/// The record of a manifest that was read.
+/// The record of a manifest that was read up to its first damage.
 ///
-/// `Damaged` tells an edit that doesn't fit those before it, then `Profile` that the manifest has
-/// another profile than the one asked for, then `Limit` that no session is left.
-fn record_of(alloc: Global, profile: Profile, replayed: Replayed) -> Result<Recorded, OpenFault>
-    ensures record { IfOk result (λ recorded. (replayed.profile ≡ profile)
-        × IsShapeOf (column profile) (fields_of recorded.shape) (edits_of replayed.edits)
-        × (recorded.manifest ≡ Some replayed.manifest)) }
-    ensures cause { IfErr result (FoldCause profile replayed.profile replayed.edits) }
+/// `Damaged` tells the first edit that doesn't fit those before it, and where all do that damage;
+/// then `Profile` tells that the manifest has another profile than the one asked for, then `Limit`
+/// that no session is left.
+fn record_of(alloc: Global, profile: Profile, front: ManifestFront) -> Result<Recorded, OpenFault>
+    ensures record { IfOk result (λ recorded. (front.profile ≡ profile)
+        × IsShapeOf (column profile) (fields_of recorded.shape) (edits_of front.edits)
+        × ((manifest : Manifest) × (front.manifest ≡ Ok manifest)
+        × (recorded.manifest ≡ Some manifest))) }
+    ensures cause { IfErr result (FoldCause profile front.profile front.edits front.manifest) }
 {
-    let Replayed {
+    let ManifestFront {
         profile: have,
         edits,
         manifest,
-    } = replayed;
+    } = front;
     let options = Options::of(have);
     let shape = match fold(alloc, &options, edits.items()) {
         Ok(shape) => shape,
         Err(fault) => return Err(fault),
+    };
+    let manifest = match manifest {
+        Ok(manifest) => manifest,
+        Err(at) => return Err(OpenFault::Damaged(FileName::ManifestA, at)),
     };
     if have != profile {
         return Err(OpenFault::Profile(have, profile));
@@ -138,21 +145,22 @@ fn replay_record<J: Journal>(
     ensures watched { HasWatched (told_by J.Journal journal.old) (told_by J.Journal journal.new) }
     ensures never_falls { J.faults journal.old ≤ J.faults journal.new }
 {
-    let replayed = match Manifest::replay(alloc, journal) {
-        Ok(Some(replayed)) => replayed,
+    let front = match Manifest::replay_front(alloc, journal) {
+        Ok(Some(front)) => front,
         Ok(None) => return no_record(alloc, profile),
         Err(fault) => return Err(record_fault(fault)),
     };
-    record_of(alloc, profile, replayed)
+    record_of(alloc, profile, front)
 }
 
 /// Reads the record of a store: syncs both files of the manifest, replays the one in force, and
 /// folds its edits. The manifest comes back ready for the next edit.
 ///
-/// `Damaged` tells the first place of the manifest that isn't in form; where all is, the gate of its
-/// first edit that doesn't fit those before it. Then comes `Profile`, where the manifest has another
-/// profile than the one asked for, then `Limit`, where no session is left. `Journal` comes only where
-/// the journal failed. Nothing is changed; after `Ok` every crash leaves both files as they are read.
+/// `Damaged` tells the first place of the manifest that isn't in form or doesn't fit: 0 for the
+/// header, else the gate of its first group that is no edit's, or whose edit doesn't fit those before
+/// it. Then comes `Profile`, where the manifest has another profile than the one asked for, then
+/// `Limit`, where no session is left. `Journal` comes only where the journal failed. Nothing is
+/// changed; after `Ok` every crash leaves both files as they are read.
 pub fn read_record<J: Journal>(
     alloc: Global,
     journal: &mut J,

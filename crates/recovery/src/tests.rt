@@ -143,6 +143,32 @@ fn an_edit_that_does_not_fit_is_told_at_its_gate(rt: HostRuntime) -> Result<(), 
     Ok(())
 }
 
+/// What is read of a manifest with these bytes.
+fn session_in(alloc: Global, bytes: &[u8]) -> Result<Result<u64, OpenFault>, Fail> {
+    let devices = MemDevices::new(alloc, Plans::empty(alloc))?;
+    let mut devices = devices.with_file(JournalFile::ManifestA, bytes)?;
+    session_over(alloc, &mut devices)
+}
+
+#[test]
+fn of_two_damages_of_a_record_the_first_is_told(rt: HostRuntime) -> Result<(), Fail> {
+    let alloc = rt.alloc();
+    // The openings of the sessions 1, 2 and 3, at 24, 50 and 76.
+    let mut bytes = MANIFEST[..50].to_vec(alloc)?;
+    bytes.extend_from_slice(&MANIFEST[24..50])?;
+    bytes.extend_from_slice(&MANIFEST[24..])?;
+    bytes[67] = 2;
+    bytes[93] = 3;
+    assert_eq!(rt; session_in(alloc, &bytes)?, Ok(3));
+    // The third is no group, then the second is session 1 again, then the first no edit.
+    for (at, value, place) in [(80, 20, 76), (67, 1, 50), (33, 9, 24)] {
+        bytes[at] = value;
+        let damaged = OpenFault::Damaged(FileName::ManifestA, place);
+        assert_eq!(rt; session_in(alloc, &bytes)?, Err(damaged));
+    }
+    Ok(())
+}
+
 /// Whether reading and recording went well where this call of the journal fails, and what is read
 /// after a crash.
 fn fail_and_crash(
