@@ -1,8 +1,9 @@
 //! Sorted tables: written to a maker, entry by entry, and opened from a port.
 //!
-//! The layer above may use `TableWriter`, which makes a table, `PieceWriter`, by which a job makes its tables,
-//! and `Table`, which tells where its blocks lie. It speaks of a table by the words of `specs/Form`: the bytes of sorted entries, in blocks, with an
-//! index, a filter and a footer. It may not know what the writer keeps of the entries that it has written.
+//! The layer above may use `TableWriter`, which makes a table, `PieceWriter`, by which a job that
+//! reads tables makes its own, and `Table`, which tells where its blocks lie. It speaks of a table
+//! by the words of `specs/Form`: the bytes of sorted entries, in blocks, with an index, a filter and
+//! a footer. It may not know what the writer keeps of the entries that it has written.
 #![tactic(auto)]
 
 mod filling;

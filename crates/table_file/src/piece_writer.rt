@@ -37,7 +37,8 @@ fn range_from(keys: &[Key], key: &[u8], from: usize) -> usize
 }
 
 /// Writes entries that come in order into tables: one for each range between neighbouring keys in
-/// which an entry falls, under the number of that range. It is the writer of all jobs.
+/// which an entry falls, under the number of that range. It is the writer of all jobs that read
+/// tables; a flush, which makes one table, writes it by a `TableWriter`.
 ///
 /// A job begins each of its inputs with a number, that of the range before the first key, and the
 /// ranges behind take the numbers that follow, those without entries too. So one job makes the same
