@@ -18,6 +18,8 @@ mod levels;
 mod numbers;
 mod picking;
 #[cfg(test)]
+mod shapes;
+#[cfg(test)]
 mod tests;
 
 pub use claims::Claims;

@@ -14,7 +14,7 @@ use version::Version;
 
 /// A table that is its row alone.
 #[derive(Drop)]
-struct Bare {
+pub struct Bare {
     row: TableRow,
 }
 
@@ -31,7 +31,7 @@ impl HasRow for Bare {
 }
 
 /// A handle to a table.
-type Handle = Arc<Bare, Global>;
+pub type Handle = Arc<Bare, Global>;
 
 /// A claim from a key on to no end, twice.
 fn from(alloc: Global, level: u8, lo: &[u8], mode: Mode) -> Result<[Claim; 2], Fail> {
@@ -98,7 +98,7 @@ fn a_freed_claim_is_in_nobodys_way(rt: HostRuntime) -> Result<(), Fail> {
 }
 
 /// A table of this number at a level, from one key to another.
-fn table(
+pub fn table(
     alloc: Global,
     number: u64,
     level: u8,
@@ -121,7 +121,7 @@ fn table(
 }
 
 /// Appends a table, having seen that it lies in one guard.
-fn append(rt: &impl Abort, level: &mut Level<Handle>, table: Handle) -> Result<(), Fail> {
+pub fn append(rt: &impl Abort, level: &mut Level<Handle>, table: Handle) -> Result<(), Fail> {
     let row = table.row();
     let guard = level.guard_of(row.smallest.bytes());
     let last = level.guard_of(row.largest.bytes());
@@ -169,7 +169,7 @@ fn candidates(alloc: Global) -> Result<Candidates, Fail> {
     Ok(candidates)
 }
 
-/// What is picked from a version of the profile `small`, beside these claims.
+/// What is picked from a version of the profile `small`, beside these claims, where `o` was chosen.
 fn picked(
     rt: &impl Abort,
     alloc: Global,
@@ -177,10 +177,21 @@ fn picked(
     frozen: bool,
     claims: &Claims,
 ) -> Result<Option<Job>, Fail> {
+    picked_of(rt, alloc, version, frozen, &candidates(alloc)?, claims)
+}
+
+/// What is picked from a version of the profile `small`, beside these candidates and claims.
+pub fn picked_of(
+    rt: &impl Abort,
+    alloc: Global,
+    version: &Version<Handle>,
+    frozen: bool,
+    candidates: &Candidates,
+    claims: &Claims,
+) -> Result<Option<Job>, Fail> {
     let options = Options::of(Profile::Small);
     assert!(rt; version.last_level() == options.last_level);
-    let candidates = candidates(alloc)?;
-    let job = pick(alloc, version, frozen, &candidates, claims, &options)?;
+    let job = pick(alloc, version, frozen, candidates, claims, &options)?;
     assert!(rt; due(version, frozen, &options) || job.is_none());
     Ok(job)
 }
