@@ -1,7 +1,10 @@
+pub mod Examples
 pub mod Fronts
 pub mod ImageSteps
 pub mod LogFacts
 pub mod LogLaws
 pub mod Logs
 pub mod OneReading
+pub mod Recorded
+pub mod RecordedLaws
 pub mod SpelledLaws

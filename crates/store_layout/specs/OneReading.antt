@@ -96,20 +96,14 @@ pub record SameReading (a b : List Held) (x y : Batches) : Type 0 where
   pub logs : a ≡ b
   pub batches : x ≡ y
 
--- an image is read in one way
-pub one_reading : Finished → OneLog → OneBatch
-    → (profile other : Profile) (image : Image) (a b : List Held) (x y : Batches)
-    → Reads profile image a x → Reads other image b y → SameReading a b x y
-one_reading fin one batch profile other image a b x y ra rb =
-    let g = goes fin one 1 a b image (begun 1 a ra.holds) rb.holds in
-    let none : g.more ≡ [] = ends (1 + length a) g.more (finish 1 (1 + length a) a ra.holds refl)
+-- the logs of an image from a number on are one list
+pub same_logs : Finished → OneLog → (n : ℕ) (image : Image) (a b : List Held)
+    → HoldsLogs n a image → HoldsLogs n b image → a ≡ b
+same_logs fin one n image a b ha hb =
+    let g = goes fin one n a b image (begun n a ha) hb in
+    let none : g.more ≡ [] = ends (n + length a) g.more (finish n (n + length a) a ha refl)
     g.holds in
-    let same : b ≡ a = g.is ∙ ap (λ m. a ++ m) none ∙ append-nil a in
-    record {
-      logs = sym same;
-      batches =
-          spells_one batch a x y ra.spelled (subst (λ l. SpellsAll l y) same rb.spelled);
-    }
+    sym (g.is ∙ ap (λ m. a ++ m) none ∙ append-nil a)
   where
     begun : (n : ℕ) (logs : List Held) → HoldsLogs n logs image → BeginsLogs n logs image
     begun n [] holds = tt
@@ -126,3 +120,15 @@ one_reading fin one batch profile other image a b x y ra rb =
     ends k [] absent holds = refl
     ends k (l ∷ more) absent holds =
         absurd (fin (Log k) (image (Log k)) l.header l.groups holds.0 absent)
+
+-- an image is read in one way
+pub one_reading : Finished → OneLog → OneBatch
+    → (profile other : Profile) (image : Image) (a b : List Held) (x y : Batches)
+    → Reads profile image a x → Reads other image b y → SameReading a b x y
+one_reading fin one batch profile other image a b x y ra rb =
+    let logs : a ≡ b = same_logs fin one 1 image a b ra.holds rb.holds in
+    record {
+      logs = logs;
+      batches =
+          spells_one batch a x y ra.spelled (subst (λ l. SpellsAll l y) (sym logs) rb.spelled);
+    }

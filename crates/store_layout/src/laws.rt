@@ -4,6 +4,7 @@ ghost use Rattle.std.specs.Prelude.{◌≡◌, ℕ, List};
 ghost use Rattle.peb_base.specs.Batches.{Batches};
 ghost use Rattle.peb_base.specs.declared.profile.Profile.{Profile};
 ghost use Rattle.disk_model.specs.Images.{Image};
+ghost use Rattle.store_layout.specs.Examples.{NothingStands, FirstStands};
 ghost use Rattle.store_layout.specs.Logs.{Held, AreRecords, SpellsAll, Reads};
 
 use record_log::{one_batch, one_reading};
@@ -29,3 +30,10 @@ pub fn one_layout()
     one_reading();
     one_batch();
 }
+
+/// An image without files stands for no batches and for the record without edits; and so do the
+/// files after the first opening, with that opening in the record.
+pub fn first_images()
+    ensures nothing { NothingStands }
+    ensures opened { FirstStands }
+{}

@@ -7,4 +7,4 @@
 
 mod laws;
 
-pub use laws::{one_layout, one_spelling};
+pub use laws::{first_images, one_layout, one_spelling};
