@@ -38,16 +38,16 @@ pub create_leaves : {D : Type 0} (d : Ghosts D) (old new : D) (start : Start) (k
 create_leaves d old new start k header logs image at own quiet sure follows left =
     let step = stepped d old k (Creates (Log k) header) (d.left_since new (d.moment old)) (omega (arith, at)) (quiet.only sure) follows image left in
     let begun : IsUnfinished (image (Log k)) → Stands start.profile start.base image = λ unfinished.
-    stands_of start.profile start.base logs image (holds_begun 1 k logs (d.seen old) image (omega (arith, at)) (λ m le. step.elsewhere m (omega (arith, le))) unfinished quiet.reads.holds) quiet.reads.same quiet.reads.spelled quiet.reads.ordered
+    stands_of start.profile start.base logs image (holds_begun 1 k logs (d.seen old) image (omega (arith, at)) (λ m le. step.elsewhere m (omega (arith, le))) unfinished (quiet.reads sure).holds) (quiet.reads sure).same (quiet.reads sure).spelled (quiet.reads sure).ordered
     (λ m lt. step.elsewhere m (omega (arith, lt)) (above m k (omega (arith, at, lt))) ∙ quiet.none_above sure m lt) in
     elim step.here [
-      | inl stays ↦ begun (subst IsUnfinished (sym stays) (holds_end 1 k logs (d.seen old) (omega (arith, at)) quiet.reads.holds))
+      | inl stays ↦ begun (subst IsUnfinished (sym stays) (holds_end 1 k logs (d.seen old) (omega (arith, at)) (quiet.reads sure).holds))
       | inr more ↦ elim more [
         | inl unfinished ↦ begun unfinished
         | inr made ↦ stands_of start.profile start.base (logs ++ fresh header ∷ []) image
-            (holds_next 1 k logs (fresh header) (d.seen old) image (omega (arith, at)) (λ m le. step.elsewhere m (omega (arith, le))) (quiet.none_above sure (suc k) (omega (arith, at))) made quiet.reads.holds)
-            (of_push start.profile logs (fresh header) quiet.reads.same own)
-            (spells_one_more logs header start.base quiet.reads.spelled) quiet.reads.ordered
+            (holds_next 1 k logs (fresh header) (d.seen old) image (omega (arith, at)) (λ m le. step.elsewhere m (omega (arith, le))) (quiet.none_above sure (suc k) (omega (arith, at))) made (quiet.reads sure).holds)
+            (of_push start.profile logs (fresh header) (quiet.reads sure).same own)
+            (spells_one_more logs header start.base (quiet.reads sure).spelled) (quiet.reads sure).ordered
             (λ m lt. let size = length-append logs (fresh header ∷ []) in
             step.elsewhere m (omega (arith, lt)) (above m k (omega (arith, at, lt, size))) ∙ quiet.none_above sure m (omega (arith, at, lt, size)))
       ]
@@ -63,9 +63,9 @@ create_rests d old new start k session header log logs at own owned quiet call =
     record {
       logs = logs;
       current = fresh header;
-      holds = λ sure. holds_next 1 k logs (fresh header) (d.seen old) (d.seen new) (omega (arith, at)) (λ m le. same m (omega (arith, le))) (quiet.none_above sure (suc k) (omega (arith, at))) made quiet.reads.holds;
-      same = of_push start.profile logs (fresh header) quiet.reads.same own;
-      spelled = spells_one_more logs header start.base quiet.reads.spelled;
+      holds = λ sure. holds_next 1 k logs (fresh header) (d.seen old) (d.seen new) (omega (arith, at)) (λ m le. same m (omega (arith, le))) (quiet.none_above sure (suc k) (omega (arith, at))) made (quiet.reads sure).holds;
+      same = of_push start.profile logs (fresh header) quiet.same own;
+      spelled = spells_one_more logs header start.base quiet.spelled;
       none_above = λ sure m lt. same m (omega (arith, lt)) (above m k (omega (arith, at, lt))) ∙ quiet.none_above sure m (omega (arith, lt));
       file = call.file ∙ ap Log at;
       owned = owned;

@@ -2,6 +2,9 @@ pub mod Begins
 pub mod Founds
 pub mod Openings
 pub mod Ranges
+pub mod Readings
 pub mod Records
 pub mod Replays
+pub mod Sessions
 pub mod Touching
+pub mod Unreadable

@@ -204,7 +204,9 @@ quiet_after fin one batch d old new profile honest held batches found on =
     let stands : IsTrue honest → (image : Image) → d.may_leave old image → Stands profile batches image = λ sure. each_stands profile honest batches (d.seen old) (d.may_leave old) sure on in
     let none : IsTrue honest → (m : ℕ) → suc (length held) < m → d.seen new (Log m) ≡ None = λ sure. none_over fin one batch d old new profile held batches batches found (stands sure (d.seen old) found.read) in
     record {
-      reads = subst (λ (i : Image). Reads profile i held batches) (sym seen) found.reads;
+      reads = λ sure. subst (λ (i : Image). Reads profile i held batches) (sym seen) found.reads;
+      same = found.reads.same;
+      spelled = found.reads.spelled;
       none_above = none;
       only = λ sure image left m some. elim (cases_lt (suc (length held)) m) [
         | inl high ↦

@@ -154,7 +154,9 @@ AddCause profile number header P opens.Memory = Unit {0}
 -- what was read of the logs, once they were synced: a crash leaves them so
 pub record Quiet {D : Type 0} (d : Ghosts D) (journal : D) (start : Start)
     (logs : List Held) : Type 0 where
-  pub reads : Reads start.profile (d.seen journal) logs start.base
+  pub reads : IsTrue start.honest → Reads start.profile (d.seen journal) logs start.base
+  pub same : AreOf start.profile logs
+  pub spelled : SpellsAll logs start.base
   pub none_above : IsTrue start.honest → (m : ℕ) → suc (length logs) < m
       → d.seen journal (Log m) ≡ None
   pub only : IsTrue start.honest → (image : Image) → d.may_leave journal image

@@ -18,17 +18,9 @@ use Rattle.manifest.specs.declared.append_fault.AppendFault.{AppendFault}
 use Rattle.manifest.specs.declared.append_fault.AppendFault.TheVariants as appends
 use Rattle.manifest.specs.declared.manifest_file.Manifest.{Manifest}
 use Rattle.manifest.specs.Manifests.{IsManifest, IsDamagedBehind, IsReadyManifest, edit_groups, edits_of}
+pub use Rattle.store_layout.specs.Recorded.{HoldsRecord, session_of_record}
 use Rattle.recovery.specs.declared.open_fault.OpenFault.{OpenFault}
 use Rattle.recovery.specs.declared.open_fault.OpenFault.TheVariants as opens
-
--- the file holds the edits of this record; where no manifest was created there are none
-abbrev pub HoldsRecord : Profile → Record → Option (List ℕ) → Type 0
-HoldsRecord profile edits found =
-    (IsUnfinished found × (edits ≡ [])) ⊎ IsManifest profile edits found
-
--- the session of the last opening in a record, or 0
-abbrev pub session_of_record : Profile → Record → ℕ
-session_of_record profile edits = (shape_of (column profile) edits).session
 
 -- the file holds a manifest of a profile, whose edits fit one another
 abbrev pub HoldsLegal : Profile → Record → Option (List ℕ) → Type 0

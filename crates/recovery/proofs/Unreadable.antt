@@ -1,0 +1,85 @@
+-- What is damaged is never read by a record.
+use Rattle.std.proofs.Common.{◌≡◌, ℕ, ◌+◌, true, Bool, IsTrue, List, [], ◌∷◌, ◌++◌, length, Option, Some, sym, ap, ◌∙◌, subst, arith, inl, inr, append_assoc}
+use Rattle.peb_base.specs.Batches.{Batches, are_in_order}
+use Rattle.peb_base.specs.declared.profile.Profile.{Profile}
+use Rattle.disk_model.specs.declared.journal_file.JournalFile.TheVariants.{Log, ManifestA}
+use Rattle.disk_model.specs.Images.{Image}
+use Rattle.record_log.specs.declared.header.Header.{Header}
+use Rattle.record_log.specs.Groups.{placed}
+use Rattle.record_log.specs.Log.{IsLog, IsUnfinished, IsDamaged}
+use Rattle.flsm_model.specs.Shape.{Record}
+use Rattle.store_layout.specs.Fronts.{front_in_order}
+use Rattle.store_layout.specs.LogFacts.{OneLog, Undamaged, Finished, OneBatch}
+use Rattle.store_layout.specs.Logs.{Held, flat, HoldsLogs, AreRecords, SpellsAll}
+use Rattle.store_layout.specs.OneReading.{same_held, goes, cut, spells_one}
+use Rattle.store_layout.specs.Recorded.{Bounds, bounds_of, HoldsRecord, IsWithin, AreWithin, ReadsFrom}
+use Rattle.store_layout.specs.RecordedLaws.{OneManifest, one_record}
+use Rattle.recovery.specs.declared.open_fault.OpenFault.{OpenFault}
+use Rattle.recovery.specs.declared.open_fault.OpenFault.TheVariants as opens
+use Rattle.recovery.specs.Opening.{CantGoOn, IsOutOfForm}
+use Rattle.recovery.specs.Reading.{IsForeign, IsMisplaced, IsDamagedLog, IsUnreadableIn, LogsCause, StoreCause}
+use Rattle.recovery.proofs.Founds.{bodies_placed}
+use Rattle.recovery.proofs.Replays.{stopped_cant}
+
+-- logs behind others are within bounds
+within_behind : (bounds : Bounds) (first more : List Held) → AreWithin bounds (first ++ more) → AreWithin bounds more
+within_behind bounds [] more all = all
+within_behind bounds (x ∷ first) more all = within_behind bounds first more all.1
+
+-- a log that isn't in form
+out_of_form : Undamaged → (n at : ℕ) (image : Image) → IsOutOfForm n at image → (more : List Held) → HoldsLogs n more image → ⊥
+out_of_form un n at image (bytes, found, damaged) [] holds = short (subst IsUnfinished found holds)
+  where
+    short : IsUnfinished (Some bytes) → ⊥
+    short (inl less) = omega (arith, less, damaged.long)
+    short (inr closed) = closed damaged.made
+out_of_form un n at image (bytes, found, damaged) (l ∷ more) holds = un (Log n) bytes l.header l.groups at (subst (λ b. IsLog (Log n) l.header l.groups b) found holds.0) damaged
+
+-- one whose header isn't within bounds
+foreign : Finished → OneLog → (bounds : Bounds) (n : ℕ) (image : Image) → IsForeign bounds n image → (more : List Held) → HoldsLogs n more image → AreWithin bounds more → ⊥
+foreign fin one bounds n image (log, form, out) [] holds within = fin (Log n) (image (Log n)) log.header log.groups form holds
+foreign fin one bounds n image (log, form, out) (l ∷ more) holds within =
+    out (subst (IsWithin bounds) (one (Log n) (image (Log n)) l.header log.header l.groups log.groups holds.0 form).0 within.0)
+
+-- one whose records can't go on
+misplaced : Finished → OneLog → OneBatch → (bounds : Bounds) (batches : Batches) (n at : ℕ) (image : Image) → IsMisplaced bounds batches n at image → (more : List Held) (x y : Batches) → HoldsLogs n more image
+    → x ≡ batches → SpellsAll more y → are_in_order (x ++ y) ≡ true → ⊥
+misplaced fin one batch bounds batches n at image d [] x y holds same spells ordered = fin (Log n) (image (Log n)) d.log.header d.log.groups d.form holds
+misplaced fin one batch bounds batches n at image d (l ∷ more) x y holds same (own, rest, is, these, others) ordered =
+    let e = one (Log n) (image (Log n)) l.header d.log.header l.groups d.log.groups holds.0 d.form in
+    let cant : CantGoOn d.log.header.session batches (flat d.log.groups) =
+    subst (λ bodies. CantGoOn d.log.header.session batches bodies) (bodies_placed 24 d.log.groups) (stopped_cant batch d.log.header.session batches (placed 24 d.log.groups) at d.stops) in
+    let whole : (batches ++ own) ++ rest ≡ x ++ y = append_assoc batches own rest ∙ ap (λ r. batches ++ r) (sym is) ∙ ap (λ r. r ++ y) (sym same) in
+    cant own (subst (λ (h : Held). AreRecords h.header.session (flat h.groups) own) (same_held l d.log e) these) (front_in_order (batches ++ own) rest (ap are_in_order whole ∙ ordered))
+
+-- an image with a damaged log isn't read within bounds
+pub damaged_unread : Finished → OneLog → Undamaged → OneBatch → (bounds : Bounds) (n at : ℕ) (image : Image) → IsDamagedLog bounds n at image → (logs : List Held) (batches : Batches) → ReadsFrom bounds image logs batches → ⊥
+damaged_unread fin one un batch bounds n at image d logs batches r =
+    let g = goes fin one bounds.first d.logs logs image d.reads.begins r.holds in
+    let c = cut d.logs g.more batches (subst (λ l. SpellsAll l batches) g.is r.spelled) in
+    let holds : HoldsLogs n g.more image = subst (λ (k : ℕ). HoldsLogs k g.more image) (sym d.next) g.holds in
+    elim d.damage [
+      | inl form ↦ out_of_form un n at image form g.more holds
+      | inr other ↦ elim other [
+        | inl out ↦ foreign fin one bounds n image out.0 g.more holds (within_behind bounds d.logs g.more (subst (AreWithin bounds) g.is r.within))
+        | inr placed ↦ misplaced fin one batch bounds d.batches n at image placed g.more c.fronts c.others holds (spells_one batch d.logs c.fronts d.batches c.spells_first d.reads.spelled) c.spells_second
+            (sym (ap are_in_order c.is) ∙ r.ordered)
+      ]
+    ]
+
+-- why logs weren't read is why a store wasn't, where this is its record
+pub store_refused : Finished → OneLog → Undamaged → OneBatch → OneManifest → (rose : Type 0) (tells : Bool) (seen : Image) (profile : Profile) (edits : Record) (fault : OpenFault)
+    → (IsTrue tells → HoldsRecord profile edits (seen ManifestA)) → LogsCause rose tells seen (bounds_of profile edits) fault → StoreCause rose tells seen profile fault
+store_refused fin one un batch manifest rose tells seen profile edits opens.Journal holds cause = cause
+store_refused fin one un batch manifest rose tells seen profile edits (opens.Damaged file at) holds (n, is, damage) = inr (
+  n,
+  is,
+  λ told. (
+    λ other logs batches reads. damaged_unread fin one un batch (bounds_of profile edits) n at seen (damage told) logs batches
+        (subst (λ (r : Record). ReadsFrom (bounds_of profile r) seen logs batches) (one_record fin manifest profile other edits (seen ManifestA) reads.recorded (holds told)) reads.read),
+    (edits, holds told, damage told),
+  ),
+)
+store_refused fin one un batch manifest rose tells seen profile edits (opens.Profile have asked) holds cause = absurd cause
+store_refused fin one un batch manifest rose tells seen profile edits (opens.Limit kind n) holds cause = absurd cause
+store_refused fin one un batch manifest rose tells seen profile edits opens.Memory holds cause = tt
