@@ -1,5 +1,6 @@
 pub mod Begins
 pub mod Founds
+pub mod Opened
 pub mod Openings
 pub mod Ranges
 pub mod Readings

@@ -1,5 +1,6 @@
 pub mod Looking
 pub mod NextLog
+pub mod Opened
 pub mod Opening
 pub mod Range
 pub mod Reading

@@ -102,3 +102,22 @@ touched_manifest tells file a b one = record {
       (first.0, first.1, λ other record_differs log_differs. first.2 other record_differs);
   keeps = one.keeps;
 }
+
+-- the manifest alone, and then both
+pub touched_on_both : (tells : Bool) (file : JournalFile) (a b c : JournalTold)
+    → HasTouched tells ManifestA a b → HasTouchedBoth tells file b c → HasTouchedBoth tells file a c
+touched_on_both tells file a b c one two = record {
+  later = omega (arith, one.later, two.later);
+  reads = λ other record_differs log_differs. two.reads other record_differs log_differs
+      ∙ one.reads other record_differs;
+  images = λ told t image le left.
+      let mid = two.images told t image (omega (arith, le, one.later)) left in
+      let first = one.images told t mid.0 le mid.1 in (
+        first.0,
+        first.1,
+        λ other record_differs log_differs. mid.2 other record_differs log_differs
+            ∙ first.2 other record_differs,
+      );
+  keeps = λ t image le left. two.keeps t image (omega (arith, le, one.later))
+      (one.keeps t image le left);
+}

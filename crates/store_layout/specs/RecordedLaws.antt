@@ -190,7 +190,7 @@ stands_logs profile batches edits image s =
     }
 
 -- an image with the same logs stands for a later record that it holds
-pub stands_recorded : (profile : Profile) (batches : Batches) (old new : Record)
+unfoldable pub stands_recorded : (profile : Profile) (batches : Batches) (old new : Record)
     (before image : Image) → StandsFor profile batches old before
     → ((m : ℕ) → image (Log m) ≡ before (Log m)) → HoldsRecord profile new (image ManifestA)
     → is_legal_record (column profile) new ≡ true → AreOpenings new
@@ -319,7 +319,7 @@ stands_created profile batches edits before image n header s at within step =
 -- ---- the next opening
 
 -- an image that records the next opening stands for the record as it was, or with the opening
-pub stands_opened : (profile : Profile) (batches : Batches) (edits : Record)
+unfoldable pub stands_opened : (profile : Profile) (batches : Batches) (edits : Record)
     (before image : Image) (log : ℕ) → StandsFor profile batches edits before
     → ((m : ℕ) → image (Log m) ≡ before (Log m))
     → IsManifest profile (edits ++ Open (session_of_record profile edits + 1) log ∷ [])
@@ -336,3 +336,14 @@ stands_opened profile batches edits before image log s same holds some room =
     (legal_opening profile edits session log s.reads.legal refl (omega (arith, first, some)) some
     room)
     (all_push IsOpening edits (Open session log) s.openings tt) (omega (arith, now))
+
+-- its logs are the same
+pub opened_logs : (profile : Profile) (batches : Batches) (edits : Record)
+    (before image : Image) (log : ℕ) → (s : StandsFor profile batches edits before)
+    → (same : (m : ℕ) → image (Log m) ≡ before (Log m))
+    → (holds : IsManifest profile (edits ++ Open (session_of_record profile edits + 1) log ∷ [])
+    (image ManifestA)) → (some : 1 ≤ log)
+    → (room : log ≤ session_of_record profile edits * 2 ^ 41 + 1)
+    → (stands_opened profile batches edits before image log s same holds some room).logs ≡ s.logs
+unfolding stands_opened stands_recorded
+opened_logs profile batches edits before image log s same holds some room = refl
