@@ -1,13 +1,18 @@
 -- What is damaged is never read by a record.
-use Rattle.std.proofs.Common.{◌≡◌, ℕ, ◌+◌, true, Bool, IsTrue, List, [], ◌∷◌, ◌++◌, length, Option, Some, sym, ap, ◌∙◌, subst, arith, inl, inr, append_assoc}
+use Rattle.std.proofs.Common.{◌≡◌, ℕ, ◌+◌, true, Bool, IsTrue, List, [], ◌∷◌, ◌++◌, length, Option, Some, sym, ap, ◌∙◌, subst, arith, inl, inr, append_assoc, false, refl, true≢false}
 use Rattle.peb_base.specs.Batches.{Batches, are_in_order}
+use Rattle.std.proofs.lemmas.Bool.{and_from, and_parts}
 use Rattle.peb_base.specs.declared.profile.Profile.{Profile}
+use Rattle.peb_base.specs.Profiles.{column, Column}
+use Rattle.disk_model.specs.declared.journal_file.JournalFile.{JournalFile}
+use Rattle.flsm_model.specs.Fits.{fits, fit_from, is_legal_record}
+use Rattle.manifest.specs.Manifests.{IsManifest, IsDamagedManifest, manifest_header, edit_groups}
 use Rattle.disk_model.specs.declared.journal_file.JournalFile.TheVariants.{Log, ManifestA}
 use Rattle.disk_model.specs.Images.{Image}
 use Rattle.record_log.specs.declared.header.Header.{Header}
 use Rattle.record_log.specs.Groups.{placed}
 use Rattle.record_log.specs.Log.{IsLog, IsUnfinished, IsDamaged}
-use Rattle.flsm_model.specs.Shape.{Record}
+use Rattle.flsm_model.specs.Shape.{Record, Shape, empty_shape, shape_after}
 use Rattle.store_layout.specs.Fronts.{front_in_order}
 use Rattle.store_layout.specs.LogFacts.{OneLog, Undamaged, Finished, OneBatch}
 use Rattle.store_layout.specs.Logs.{Held, flat, HoldsLogs, AreRecords, SpellsAll}
@@ -18,8 +23,17 @@ use Rattle.recovery.specs.declared.open_fault.OpenFault.{OpenFault}
 use Rattle.recovery.specs.declared.open_fault.OpenFault.TheVariants as opens
 use Rattle.recovery.specs.Opening.{CantGoOn, IsOutOfForm}
 use Rattle.recovery.specs.Reading.{IsForeign, IsMisplaced, IsDamagedLog, IsUnreadableIn, LogsCause, StoreCause}
+use Rattle.recovery.specs.Record.{HoldsMisfit, IsDamagedRecord, RecordCause}
 use Rattle.recovery.proofs.Founds.{bodies_placed}
 use Rattle.recovery.proofs.Replays.{stopped_cant}
+
+-- what is damaged was created to its end
+abbrev DamageIsFinished : Type 0
+DamageIsFinished = (file : JournalFile) (bytes : List ℕ) (at : ℕ) → IsDamaged file bytes at → IsUnfinished (Some bytes) → ⊥
+
+-- a file with a manifest isn't damaged
+abbrev UndamagedManifest : Type 0
+UndamagedManifest = (found : Option (List ℕ)) (profile : Profile) (edits : Record) (at : ℕ) → IsManifest profile edits found → IsDamagedManifest found at → ⊥
 
 -- logs behind others are within bounds
 within_behind : (bounds : Bounds) (first more : List Held) → AreWithin bounds (first ++ more) → AreWithin bounds more
@@ -83,3 +97,44 @@ store_refused fin one un batch manifest rose tells seen profile edits (opens.Dam
 store_refused fin one un batch manifest rose tells seen profile edits (opens.Profile have asked) holds cause = absurd cause
 store_refused fin one un batch manifest rose tells seen profile edits (opens.Limit kind n) holds cause = absurd cause
 store_refused fin one un batch manifest rose tells seen profile edits opens.Memory holds cause = tt
+
+-- ---- a manifest that isn't a record
+
+-- the first edits of a legal record are one
+legal_front : (o : Column) (s : Shape) (r more : Record) → fit_from o s (r ++ more) ≡ true → fit_from o s r ≡ true
+legal_front o s [] more legal = refl
+legal_front o s (e ∷ r) more legal =
+    let parts = and_parts (fits o s e) (fit_from o (shape_after s e) (r ++ more)) legal in
+    and_from (fits o s e) (fit_from o (shape_after s e) r) parts.0 (legal_front o (shape_after s e) r more parts.1)
+
+-- a damaged manifest was created to its end
+damage_finished : Finished → DamageIsFinished → (found : Option (List ℕ)) (at : ℕ) → IsDamagedManifest found at → IsUnfinished found → ⊥
+damage_finished fin long found at (inl (bytes, is, damaged)) none = long ManifestA bytes at damaged (subst IsUnfinished is none)
+damage_finished fin long found at (inr (profile, groups, log, edit)) none = fin ManifestA found (manifest_header profile) groups log none
+
+-- nothing is read by a manifest that isn't in form, or whose edits don't fit one another
+pub record_unread : Finished → DamageIsFinished → OneManifest → UndamagedManifest → (profile : Profile) (seen : Image) (at : ℕ) → IsDamagedRecord (seen ManifestA) at → IsUnreadableIn profile seen
+record_unread fin long one un profile seen at damage edits logs batches reads = refused damage reads.recorded
+  where
+    misfit : (m : HoldsMisfit (seen ManifestA) at) → IsManifest profile edits (seen ManifestA) → ⊥
+    misfit m holds =
+        let same = one (seen ManifestA) profile m.profile edits (m.before ++ m.edit ∷ m.behind) holds m.holds in
+        let whole : fit_from (column m.profile) (empty_shape (column m.profile)) ((m.before ++ m.edit ∷ []) ++ m.behind) ≡ true =
+        ap (is_legal_record (column m.profile)) (append_assoc m.before (m.edit ∷ []) m.behind ∙ sym same.1) ∙ ap (λ (p : Profile). is_legal_record (column p) edits) (sym same.0) ∙ reads.legal in
+        true≢false (sym (legal_front (column m.profile) (empty_shape (column m.profile)) (m.before ++ m.edit ∷ []) m.behind whole) ∙ m.misfit)
+
+    refused : IsDamagedRecord (seen ManifestA) at → HoldsRecord profile edits (seen ManifestA) → ⊥
+    refused (inl form) (inl none) = damage_finished fin long (seen ManifestA) at form none.0
+    refused (inl form) (inr holds) = un (seen ManifestA) profile edits at holds form
+    refused (inr m) (inl none) = fin ManifestA (seen ManifestA) (manifest_header m.profile) (edit_groups (m.before ++ m.edit ∷ m.behind)) m.holds.log none.0
+    refused (inr m) (inr holds) = misfit m holds
+
+-- why a record wasn't read is why a store wasn't
+pub store_unrecorded : Finished → DamageIsFinished → OneManifest → UndamagedManifest → (rose : Type 0) (tells : Bool) (seen : Image) (profile : Profile) (fault : OpenFault)
+    → RecordCause rose tells (seen ManifestA) profile fault → StoreCause rose tells seen profile fault
+store_unrecorded fin long one un rose tells seen profile opens.Journal cause = cause
+store_unrecorded fin long one un rose tells seen profile (opens.Damaged file at) cause =
+    inl (cause.0, λ told. (record_unread fin long one un profile seen at (cause.1 told), cause.1 told))
+store_unrecorded fin long one un rose tells seen profile (opens.Profile have asked) cause = cause
+store_unrecorded fin long one un rose tells seen profile (opens.Limit kind n) cause = cause
+store_unrecorded fin long one un rose tells seen profile opens.Memory cause = tt

@@ -16,7 +16,7 @@ use Rattle.recovery.specs.declared.logs_read.LogsRead.{LogsRead}
 use Rattle.recovery.specs.declared.open_fault.OpenFault.{OpenFault}
 use Rattle.recovery.specs.declared.open_fault.OpenFault.TheVariants as opens
 use Rattle.recovery.specs.Opening.{IsOutOfForm, IsReplayOf, StopsAt}
-use Rattle.recovery.specs.Record.{HoldsLegal, RecordCause}
+use Rattle.recovery.specs.Record.{IsDamagedRecord, RecordCause}
 
 -- ---- the logs
 
@@ -99,8 +99,8 @@ HasDamagedLog profile n at image = (edits : Record) × HoldsRecord profile edits
 
 -- why a store wasn't read: its record wasn't, or a log within it
 abbrev pub StoreCause : Type 0 → Bool → Image → Profile → OpenFault → Type 0
-StoreCause rose tells seen profile (opens.Damaged file at) =
-    RecordCause rose tells (seen ManifestA) profile (opens.Damaged file at)
+StoreCause rose tells seen profile (opens.Damaged file at) = ((file ≡ names.ManifestA)
+    × (IsTrue tells → IsUnreadableIn profile seen × IsDamagedRecord (seen ManifestA) at))
     ⊎ ((n : ℕ) × (file ≡ names.Log n)
     × (IsTrue tells → IsUnreadableIn profile seen × HasDamagedLog profile n at seen))
 StoreCause rose tells seen profile opens.Journal = rose

@@ -69,6 +69,9 @@ pub record HasTouchedBoth (tells : Bool) (file : JournalFile)
   pub reads : AreSameButBoth file old.seen new.seen
   pub images : IsTrue tells → (t : ℕ) (image : Image) → t ≤ old.moment → new.left_since t image
       → (before : Image) × old.left_since t before × AreSameButBoth file before image
+  -- an image left since a time was so before the calls, or it is left since any later time before them
+  pub since : (t s : ℕ) (image : Image) → t ≤ s → s ≤ old.moment → new.left_since t image
+      → old.left_since t image ⊎ new.left_since s image
   pub keeps : (t : ℕ) (image : Image) → t ≤ old.moment → old.left_since t image
       → new.left_since t image
 
@@ -87,6 +90,14 @@ touched_both tells file a b c one two = record {
         λ other record_differs log_differs. mid.2 other log_differs
             ∙ first.2 other record_differs,
       );
+  since = λ t s image low le left.
+      elim (two.since t s image low (omega (arith, le, one.later)) left) [
+        | inl mid ↦ elim (one.since t s image low le mid) [
+          | inl first ↦ inl first
+          | inr during ↦ inr (two.keeps s image (omega (arith, le, one.later)) during)
+        ]
+        | inr during ↦ inr during
+      ];
   keeps = λ t image le left. two.keeps t image (omega (arith, le, one.later))
       (one.keeps t image le left);
 }
@@ -100,6 +111,7 @@ touched_manifest tells file a b one = record {
   images = λ told t image le left.
       let first = one.images told t image le left in
       (first.0, first.1, λ other record_differs log_differs. first.2 other record_differs);
+  since = one.since;
   keeps = one.keeps;
 }
 
@@ -118,6 +130,14 @@ touched_on_both tells file a b c one two = record {
         λ other record_differs log_differs. mid.2 other record_differs log_differs
             ∙ first.2 other record_differs,
       );
+  since = λ t s image low le left.
+      elim (two.since t s image low (omega (arith, le, one.later)) left) [
+        | inl mid ↦ elim (one.since t s image low le mid) [
+          | inl first ↦ inl first
+          | inr during ↦ inr (two.keeps s image (omega (arith, le, one.later)) during)
+        ]
+        | inr during ↦ inr during
+      ];
   keeps = λ t image le left. two.keeps t image (omega (arith, le, one.later))
       (one.keeps t image le left);
 }

@@ -7,8 +7,13 @@ use Rattle.store_layout.specs.Recorded.{bounds_of, first_log, HoldsRecord}
 use Rattle.recovery.specs.Reading.{KeepsLogs, KeepsBelow}
 use Rattle.recovery.proofs.Openings.{watched_on}
 use Rattle.recovery.proofs.Readings.{logs_cause_on, kept_file, kept_now, keeps_on, ready_watched}
-use Rattle.recovery.proofs.Unreadable.{store_refused}
+use Rattle.recovery.proofs.Unreadable.{store_refused, store_unrecorded}
 use Rattle.recovery.proofs.looking.look.Goals as goal
+
+pub returns-in-Err-clause-cause : goal.returns-in-Err-clause-cause
+returns-in-Err-clause-cause g c =
+    store_unrecorded c.one_reading.ensures.finished c.one_reading.ensures.damage_is_finished c.one_manifest.ensures.one_list c.one_manifest.ensures.undamaged _ g.J.Journal.tells
+    (g.J.Journal.seen c.args.journal.now) c.args.profile c.in-Err.fault c.in-Err.ensures.cause
 
 pub returns-in-Err-read_logs-clause-cause : goal.returns-in-Err-read_logs-clause-cause
 returns-in-Err-read_logs-clause-cause g c =
