@@ -34,4 +34,6 @@ pub use recorded_opening::open_recorded;
 pub use recording::record_opening;
 
 #[cfg(test)]
+mod recorded_tests;
+#[cfg(test)]
 mod tests;
