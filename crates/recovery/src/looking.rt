@@ -19,13 +19,13 @@ use peb_base::Profile;
 use record_log::{one_batch, one_reading};
 use std::alloc::Global;
 
-/// Reads a store: its record, and the logs that this asks for. Each file is synced before it is read;
-/// so are the logs below them, down to the first one that isn't there.
+/// Reads a store: its record, and the logs that this asks for. Each file is synced before it is
+/// read; so are the logs below them, down to the first one that isn't there.
 ///
-/// `Journal` comes only where the journal failed. `Damaged` tells a place of the manifest, or where
-/// it has a record, of the first log that isn't in form or can't stand there: one whose header has
-/// another profile, or a session that the record doesn't have, is damaged at 0. `Profile` and `Limit`
-/// come of the record. Nothing is changed.
+/// `Journal` comes only where the journal failed. `Damaged` tells a place of the manifest, or
+/// where it has a record, of the first log that isn't in form or can't stand there: one whose
+/// header has another profile, or a session that the record doesn't have, is damaged at 0.
+/// `Profile` and `Limit` come of the record. Nothing is changed.
 pub fn look<J: Journal>(
     alloc: Global,
     journal: &mut J,
