@@ -1,6 +1,6 @@
 //! Writers of pieces.
 
-ghost use Rattle.std.specs.Prelude.{◌≡◌, ◌≢◌, ◌⊎◌, ◌<◌, ◌≤◌, ◌+◌, ◌-◌, ◌^◌, ◌++◌, ◌∷◌, [], ℕ, List, Err, true, false, length, map, None, IsTrue, IfOk, OnOk};
+ghost use Rattle.std.specs.Prelude.{◌≡◌, ◌≢◌, ◌⊎◌, ◌<◌, ◌≤◌, ◌+◌, ◌-◌, ◌^◌, ◌++◌, ◌∷◌, [], ℕ, List, Err, true, false, length, map, None, IsTrue, IsOk, IfOk, OnOk};
 ghost use Rattle.std.specs.Arc.{arc_value};
 ghost use Rattle.disk_model.specs.Images.{Rose};
 ghost use Rattle.disk_model.specs.Tables.{Sealed};
@@ -78,6 +78,7 @@ impl<F: TableHandle> PieceWriter<F> {
         ensures cut { IfOk result (λ w. (m : Making) (keys : List Bytes)
             → HasCut F.TableHandle m w keys nothing) }
         ensures none { IfOk result (λ w. w.tables ≡ []) }
+        ensures shut { IfOk result (λ w. w.is_open ≡ false) }
         ensures level { IfOk result (λ w. w.level ≡ level) }
         ensures block { IfOk result (λ w. full_length w ≡ options.now.block_bytes) }
     {
@@ -154,7 +155,7 @@ impl<F: TableHandle> PieceWriter<F> {
     }
 
     /// Begins an input, whose first range has this number, and closes the table that is open. Its
-    /// entries may come anywhere, those of the inputs before aside.
+    /// entries may come anywhere, those of the inputs before aside. Where none is open it answers Ok.
     ///
     /// `Limit` comes only where that table can't be closed, `Fault` only where the maker's count of
     /// faults rose. After an error the writer is good for nothing.
@@ -169,6 +170,7 @@ impl<F: TableHandle> PieceWriter<F> {
             → HasCut F.TableHandle (making F.tells (M.begun maker.new) (M.written maker.new))
             self.new keys (next_input self.old.numbers keys s)) }
         ensures numbers { OnOk result (self.new.numbers ≡ numbers) }
+        ensures shut { OnOk result (self.new.is_open ≡ false) }
         // what it leaves
         ensures taken { (keys : List Bytes) (s : Pushed)
             → HasCut F.TableHandle (making F.tells (M.begun maker.old) (M.written maker.old))
@@ -185,6 +187,7 @@ impl<F: TableHandle> PieceWriter<F> {
             self.old keys s
             → IsRefused (blocks_fault (blocks_of (full_length self.old)
             (open_entries self.old keys s))) result }
+        ensures ready { self.old.is_open ≡ false → IsOk result }
         ensures later { M.faults maker.old ≤ M.faults maker.new }
         ensures cause { result ≡ Err Fault → Rose (M.faults maker.old) (M.faults maker.new) }
         // what stays
@@ -236,6 +239,7 @@ impl<F: TableHandle> PieceWriter<F> {
             self keys s
             → IsRefused (blocks_fault (blocks_of (full_length self)
             (open_entries self keys s))) result }
+        ensures ready { self.is_open ≡ false → IsOk result }
         ensures later { M.faults maker.old ≤ M.faults maker.new }
         ensures cause { result ≡ Err Fault → Rose (M.faults maker.old) (M.faults maker.new) }
         // what stays
@@ -366,6 +370,7 @@ impl<F: TableHandle> PieceWriter<F> {
             self.old keys s
             → IsRefused (blocks_fault (blocks_of (full_length self.old)
             (open_entries self.old keys s))) result }
+        ensures ready { self.old.is_open ≡ false → IsOk result }
         ensures later { M.faults maker.old ≤ M.faults maker.new }
         ensures cause { result ≡ Err Fault → Rose (M.faults maker.old) (M.faults maker.new) }
         // what stays
