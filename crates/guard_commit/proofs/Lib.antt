@@ -1,0 +1,11 @@
+mod Chains
+mod Counting
+mod Elsewhere
+mod Fronts
+mod Lengths
+mod Made
+mod Pushing
+mod Readings
+mod Rows
+mod Stops
+mod Suiting

@@ -1,0 +1,10 @@
+-- What a job does with its port.
+use Rattle.std.specs.Prelude.{◌≡◌, ◌≤◌}
+use Rattle.disk_model.specs.declared.port.Port.{Ghosts}
+
+-- the port has its tables still and is steady where it was, and its counts never fell
+pub record ReadsOn {P F : Type 0} (g : Ghosts P F) (old new : P) : Type 0 where
+  pub files : g.table_files new ≡ g.table_files old
+  pub reads : g.reads old ≤ g.reads new
+  pub steady : g.steady old → g.steady new
+  pub later : g.faults old ≤ g.faults new
