@@ -1,17 +1,18 @@
 -- What is damaged is never read by a record.
-use Rattle.std.proofs.Common.{◌≡◌, ℕ, ◌+◌, true, Bool, IsTrue, List, [], ◌∷◌, ◌++◌, length, Option, Some, sym, ap, ◌∙◌, subst, arith, inl, inr, append_assoc, false, refl, true≢false}
+use Rattle.std.proofs.Common.{◌≡◌, ℕ, ◌+◌, true, Bool, IsTrue, List, [], ◌∷◌, ◌++◌, length, Option, Some, sym, ap, ◌∙◌, subst, arith, inl, inr, append_assoc, false, refl, true≢false, length-append, ◌<◌}
 use Rattle.peb_base.specs.Batches.{Batches, are_in_order}
 use Rattle.std.proofs.lemmas.Bool.{and_from, and_parts}
 use Rattle.peb_base.specs.declared.profile.Profile.{Profile}
 use Rattle.peb_base.specs.Profiles.{column, Column}
 use Rattle.disk_model.specs.declared.journal_file.JournalFile.{JournalFile}
 use Rattle.flsm_model.specs.Fits.{fits, fit_from, is_legal_record}
-use Rattle.manifest.specs.Manifests.{IsManifest, IsDamagedManifest, manifest_header, edit_groups}
+use Rattle.manifest.specs.Manifests.{IsManifest, IsDamagedManifest, IsDamagedBehind, manifest_header, edit_groups}
 use Rattle.disk_model.specs.declared.journal_file.JournalFile.TheVariants.{Log, ManifestA}
 use Rattle.disk_model.specs.Images.{Image}
 use Rattle.record_log.specs.declared.header.Header.{Header}
-use Rattle.record_log.specs.Groups.{placed}
-use Rattle.record_log.specs.Log.{IsLog, IsUnfinished, IsDamaged}
+use Rattle.record_log.specs.Groups.{placed, groups_bytes}
+use Rattle.record_log.specs.Header.{header_bytes}
+use Rattle.record_log.specs.Log.{IsLog, IsUnfinished, IsDamaged, HasNoHeader}
 use Rattle.flsm_model.specs.Shape.{Record, Shape, empty_shape, shape_after}
 use Rattle.store_layout.specs.Fronts.{front_in_order}
 use Rattle.store_layout.specs.LogFacts.{OneLog, Undamaged, Finished, OneBatch}
@@ -107,27 +108,58 @@ legal_front o s (e ∷ r) more legal =
     let parts = and_parts (fits o s e) (fit_from o (shape_after s e) (r ++ more)) legal in
     and_from (fits o s e) (fit_from o (shape_after s e) r) parts.0 (legal_front o (shape_after s e) r more parts.1)
 
--- a damaged manifest was created to its end
-damage_finished : Finished → DamageIsFinished → (found : Option (List ℕ)) (at : ℕ) → IsDamagedManifest found at → IsUnfinished found → ⊥
-damage_finished fin long found at (inl (bytes, is, damaged)) none = long ManifestA bytes at damaged (subst IsUnfinished is none)
-damage_finished fin long found at (inr (profile, groups, log, edit)) none = fin ManifestA found (manifest_header profile) groups log none
+-- a file that is damaged behind edits was created to its end
+behind_finished : Finished → (profile : Profile) (edits : Record) (found : Option (List ℕ)) (at : ℕ) → IsDamagedBehind profile edits found at → IsUnfinished found → ⊥
+behind_finished fin profile edits found at d none =
+    let header = manifest_header profile in
+    let groups = edit_groups edits in
+    let tail : length (groups_bytes groups ++ 1 ∷ d.rest) ≡ length (groups_bytes groups ++ 0 ∷ d.rest) =
+    length-append (groups_bytes groups) (1 ∷ d.rest) ∙ sym (length-append (groups_bytes groups) (0 ∷ d.rest)) in
+    let size : length (header_bytes header ++ groups_bytes groups ++ 1 ∷ d.rest) ≡ length (header_bytes header ++ groups_bytes groups ++ 0 ∷ d.rest) =
+    length-append (header_bytes header) (groups_bytes groups ++ 1 ∷ d.rest) ∙ ap (λ (n : ℕ). length (header_bytes header) + n) tail
+    ∙ sym (length-append (header_bytes header) (groups_bytes groups ++ 0 ∷ d.rest)) in
+    let whole : IsUnfinished (Some (header_bytes header ++ groups_bytes groups ++ 1 ∷ d.rest)) =
+    subst (λ (bytes : List ℕ). IsUnfinished (Some bytes)) d.splits.spelled (subst IsUnfinished d.holds none) in
+    let closed : IsUnfinished (Some (header_bytes header ++ groups_bytes groups ++ 0 ∷ d.rest)) =
+    elim whole [ inl short ↦ inl (subst (λ (n : ℕ). n < 25) size short) | inr shut ↦ inr shut ] in
+    fin ManifestA (Some (header_bytes header ++ groups_bytes groups ++ 0 ∷ d.rest)) header groups
+    (record {
+      gate = 0;
+      rest = d.rest;
+      bytes = header_bytes header ++ groups_bytes groups ++ 0 ∷ d.rest;
+      holds = refl;
+      closed = λ e. omega (arith, e);
+      splits = record { fits = d.splits.fits; each = d.splits.each; spelled = refl };
+    })
+    closed
 
 -- nothing is read by a manifest that isn't in form, or whose edits don't fit one another
 pub record_unread : Finished → DamageIsFinished → OneManifest → UndamagedManifest → (profile : Profile) (seen : Image) (at : ℕ) → IsDamagedRecord (seen ManifestA) at → IsUnreadableIn profile seen
 record_unread fin long one un profile seen at damage edits logs batches reads = refused damage reads.recorded
   where
-    misfit : (m : HoldsMisfit (seen ManifestA) at) → IsManifest profile edits (seen ManifestA) → ⊥
-    misfit m holds =
-        let same = one (seen ManifestA) profile m.profile edits (m.before ++ m.edit ∷ m.behind) holds m.holds in
+    misfit : (m : HoldsMisfit (seen ManifestA) at) → IsManifest m.profile (m.before ++ m.edit ∷ m.behind) (seen ManifestA) → IsManifest profile edits (seen ManifestA) → ⊥
+    misfit m all holds =
+        let same = one (seen ManifestA) profile m.profile edits (m.before ++ m.edit ∷ m.behind) holds all in
         let whole : fit_from (column m.profile) (empty_shape (column m.profile)) ((m.before ++ m.edit ∷ []) ++ m.behind) ≡ true =
         ap (is_legal_record (column m.profile)) (append_assoc m.before (m.edit ∷ []) m.behind ∙ sym same.1) ∙ ap (λ (p : Profile). is_legal_record (column p) edits) (sym same.0) ∙ reads.legal in
         true≢false (sym (legal_front (column m.profile) (empty_shape (column m.profile)) (m.before ++ m.edit ∷ []) m.behind whole) ∙ m.misfit)
 
+    headless : HasNoHeader ManifestA (seen ManifestA) → IsUnfinished (seen ManifestA) → ⊥
+    headless h none = elim (subst IsUnfinished h.holds none) [ inl short ↦ omega (arith, short, h.long) | inr shut ↦ shut h.made ]
+
     refused : IsDamagedRecord (seen ManifestA) at → HoldsRecord profile edits (seen ManifestA) → ⊥
-    refused (inl form) (inl none) = damage_finished fin long (seen ManifestA) at form none.0
-    refused (inl form) (inr holds) = un (seen ManifestA) profile edits at holds form
-    refused (inr m) (inl none) = fin ManifestA (seen ManifestA) (manifest_header m.profile) (edit_groups (m.before ++ m.edit ∷ m.behind)) m.holds.log none.0
-    refused (inr m) (inr holds) = misfit m holds
+    refused (inl h) (inl none) = headless h.1 none.0
+    refused (inl h) (inr holds) = un (seen ManifestA) profile edits at holds (inl h)
+    refused (inr (inl m)) (inl none) = elim m.begins [
+      | inl all ↦ fin ManifestA (seen ManifestA) (manifest_header m.profile) (edit_groups (m.before ++ m.edit ∷ m.behind)) all.log none.0
+      | inr more ↦ behind_finished fin m.profile (m.before ++ m.edit ∷ m.behind) (seen ManifestA) more.0 more.1 none.0
+    ]
+    refused (inr (inl m)) (inr holds) = elim m.begins [
+      | inl all ↦ misfit m all holds
+      | inr more ↦ un (seen ManifestA) profile edits more.0 holds (inr (m.profile, m.before ++ m.edit ∷ m.behind, more.1))
+    ]
+    refused (inr (inr d)) (inl none) = behind_finished fin d.0 d.1 (seen ManifestA) at d.2 none.0
+    refused (inr (inr d)) (inr holds) = un (seen ManifestA) profile edits at holds (inr (d.0, d.1, d.2))
 
 -- why a record wasn't read is why a store wasn't
 pub store_unrecorded : Finished → DamageIsFinished → OneManifest → UndamagedManifest → (rose : Type 0) (tells : Bool) (seen : Image) (profile : Profile) (fault : OpenFault)
