@@ -10,6 +10,8 @@ mod copying;
 mod cut;
 mod passing;
 mod tally;
+#[cfg(test)]
+mod tests;
 mod writing;
 
 pub use cut::run_cut;
