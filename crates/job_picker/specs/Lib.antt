@@ -1,4 +1,5 @@
 pub mod Joined
 pub mod Kept
+pub mod Met
 pub mod Places
 pub mod Seen

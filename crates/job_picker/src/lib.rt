@@ -24,5 +24,5 @@ mod tests;
 
 pub use claims::Claims;
 pub use job_claims::claims_of;
-pub use laws::law_picked;
+pub use laws::{law_picked, law_seen};
 pub use picking::{due, pick};

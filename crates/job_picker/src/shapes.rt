@@ -485,8 +485,14 @@ fn extend(
     Ok(count)
 }
 
-/// Checks each shape whose tables lie in a level and the next one: how many these are.
-fn all_shapes(rt: &impl Abort, alloc: Global, level: u8) -> Result<u64, Fail> {
+/// Whether of the keys `g` and `o` these are guards of some level.
+fn has_guards(shape: &Shape, g: bool, o: bool) -> bool {
+    (shape.choice(2).guard < NOWHERE) == g && (shape.choice(4).guard < NOWHERE) == o
+}
+
+/// Checks each shape whose tables lie in a level and the next one, and of whose keys `g` and `o` these
+/// are guards: how many these are.
+fn shapes(rt: &impl Abort, alloc: Global, level: u8, g: bool, o: bool) -> Result<u64, Fail> {
     let mut count = 0_u64;
     for code in 0..625 {
         if let Some(choices) = choices_of(alloc, code)? {
@@ -494,30 +500,74 @@ fn all_shapes(rt: &impl Abort, alloc: Global, level: u8) -> Result<u64, Fail> {
                 choices,
                 rows: Vec::new(alloc),
             };
-            let case = case_of(rt, alloc, &shape, level)?;
-            count = count.saturating_add(extend(rt, alloc, &case, &mut shape, 0, 5)?);
+            if has_guards(&shape, g, o) {
+                let case = case_of(rt, alloc, &shape, level)?;
+                count = count.saturating_add(extend(rt, alloc, &case, &mut shape, 0, 6)?);
+            }
         }
     }
     Ok(count)
 }
 
 #[test]
-fn shapes_of_the_levels_0_and_1_get_the_job_of_the_rule(rt: HostRuntime) -> Result<(), Fail> {
-    let alloc = rt.alloc();
-    assert_eq!(rt; all_shapes(&rt, alloc, 0)?, 2_866_248);
+fn of_the_levels_0_and_1_without_guards_at_g_and_o(rt: HostRuntime) -> Result<(), Fail> {
+    assert_eq!(rt; shapes(&rt, rt.alloc(), 0, false, false)?, 2_762_760);
     Ok(())
 }
 
 #[test]
-fn shapes_of_the_levels_1_and_2_get_the_job_of_the_rule(rt: HostRuntime) -> Result<(), Fail> {
-    let alloc = rt.alloc();
-    assert_eq!(rt; all_shapes(&rt, alloc, 1)?, 2_078_250);
+fn of_the_levels_0_and_1_with_a_guard_at_o(rt: HostRuntime) -> Result<(), Fail> {
+    assert_eq!(rt; shapes(&rt, rt.alloc(), 0, false, true)?, 3_368_442);
     Ok(())
 }
 
 #[test]
-fn shapes_of_the_levels_2_and_3_get_the_job_of_the_rule(rt: HostRuntime) -> Result<(), Fail> {
+fn of_the_levels_0_and_1_with_a_guard_at_g(rt: HostRuntime) -> Result<(), Fail> {
+    assert_eq!(rt; shapes(&rt, rt.alloc(), 0, true, false)?, 2_762_760);
+    Ok(())
+}
+
+#[test]
+fn of_the_levels_0_and_1_with_guards_at_g_and_o(rt: HostRuntime) -> Result<(), Fail> {
+    assert_eq!(rt; shapes(&rt, rt.alloc(), 0, true, true)?, 3_368_442);
+    Ok(())
+}
+
+#[test]
+fn of_the_levels_1_and_2_without_guards_at_g_and_o(rt: HostRuntime) -> Result<(), Fail> {
+    assert_eq!(rt; shapes(&rt, rt.alloc(), 1, false, false)?, 2_762_760);
+    Ok(())
+}
+
+#[test]
+fn of_the_levels_1_and_2_with_a_guard_at_o(rt: HostRuntime) -> Result<(), Fail> {
+    assert_eq!(rt; shapes(&rt, rt.alloc(), 1, false, true)?, 2_219_622);
+    Ok(())
+}
+
+#[test]
+fn of_the_levels_1_and_2_with_a_guard_at_g(rt: HostRuntime) -> Result<(), Fail> {
+    assert_eq!(rt; shapes(&rt, rt.alloc(), 1, true, false)?, 1_987_062);
+    Ok(())
+}
+
+#[test]
+fn of_the_levels_1_and_2_with_guards_at_g_and_o(rt: HostRuntime) -> Result<(), Fail> {
+    assert_eq!(rt; shapes(&rt, rt.alloc(), 1, true, true)?, 1_631_136);
+    Ok(())
+}
+
+#[test]
+fn of_the_levels_2_and_3_without_guards_at_g_and_o(rt: HostRuntime) -> Result<(), Fail> {
+    assert_eq!(rt; shapes(&rt, rt.alloc(), 2, false, false)?, 2_140_292);
+    Ok(())
+}
+
+#[test]
+fn of_the_levels_2_and_3_with_a_guard_at_g_or_o(rt: HostRuntime) -> Result<(), Fail> {
     let alloc = rt.alloc();
-    assert_eq!(rt; all_shapes(&rt, alloc, 2)?, 1_064_672);
+    assert_eq!(rt; shapes(&rt, alloc, 2, false, true)?, 896_652);
+    assert_eq!(rt; shapes(&rt, alloc, 2, true, false)?, 704_484);
+    assert_eq!(rt; shapes(&rt, alloc, 2, true, true)?, 337_842);
     Ok(())
 }
