@@ -90,6 +90,17 @@ impl Entries {
         }
     }
 
+    /// Whether somebody else holds them too.
+    #[cfg(test)]
+    pub fn is_shared(&mut self) -> bool
+        ensures { self.new ≡ self.old }
+    {
+        match &mut self.chunks {
+            Some(chunks) => Arc::get_mut(chunks).is_none(),
+            None => false,
+        }
+    }
+
     /// Puts an entry, which is apart from the others, in its place, and
     /// shows the further handles nothing of it.
     pub fn put(&mut self, alloc: Global, entry: Arc<HeldEntry, Global>) -> Result<(), Memory>

@@ -290,6 +290,35 @@ fn a_chunk_is_cut_at_its_129th_entry(rt: HostRuntime) -> Result<(), Fail> {
     Ok(())
 }
 
+/// Whether the entries of a table are held by others too: while a view is held, after that view, a copy
+/// of it and its cursor are let go, and after an insert under a view that is let go.
+fn shared_by_views(alloc: Global) -> Result<(bool, bool, bool), Memory> {
+    let mut table = MemTable::new(alloc);
+    put(&mut table, alloc, 1, 1)?;
+    let view = table.snapshot()?;
+    let held = table.entries.is_shared();
+    let copy = view.copy()?;
+    let mut cursor = copy.cursor()?;
+    cursor.first().map_err(|_| Memory)?;
+    drop(cursor);
+    drop(copy);
+    drop(view);
+    let after = table.entries.is_shared();
+    let view = table.snapshot()?;
+    put(&mut table, alloc, 2, 2)?;
+    drop(view);
+    Ok((held, after, table.entries.is_shared()))
+}
+
+#[test]
+fn no_handle_outlives_the_views(rt: HostRuntime) -> Result<(), Fail> {
+    let (held, after, at_last) = shared_by_views(rt.alloc())?;
+    assert!(rt; held);
+    assert!(rt; !after);
+    assert!(rt; !at_last);
+    Ok(())
+}
+
 /// Whether a table shows the same as a view, and has so many entries of 29 bytes.
 fn shows_as(alloc: Global, table: &MemTable, view: &MemView, len: u64) -> Result<bool, Memory>
     requires { len < 2 ^ 32 }
