@@ -1,14 +1,14 @@
 -- Blocks that are cut where they are full are those of a table, and no others.
-use Rattle.std.proofs.Common.{◌≡◌, ℕ, ◌+◌, ◌<◌, ◌≤◌, ◌⊎◌, inl, inr, Bool, true, false, List, [], ◌∷◌, ◌++◌, length, refl, sym, ap, ◌∙◌, subst, arith, append_assoc, length-append}
+use Rattle.std.proofs.Common.{◌≡◌, ℕ, ◌<◌, ◌≤◌, ◌⊎◌, inl, inr, Bool, true, false, List, [], ◌∷◌, ◌++◌, length, refl, sym, ap, ◌∙◌, subst, arith, append_assoc, length-append}
 use Rattle.std.specs.Prelude.{if◌then◌else◌, nat_le}
-use Rattle.std.specs.List.{flat_map, fold}
+use Rattle.std.specs.List.{fold}
 use Rattle.std.proofs.lemmas.Bool.{cases_lt}
 use Rattle.std.proofs.lemmas.Bool.Decides.{nat_tests}
 use Rattle.std.proofs.lemmas.List.{append-nil}
 use Rattle.peb_base.specs.declared.entry.Entry.{Entry}
 use Rattle.block_form.specs.Form.{block_bytes}
-use Rattle.table_file.specs.Cutting.{IsUnfilled, AreFilled, AreCutAt, BlocksAreCut, OneCut}
-use Rattle.table_file.specs.Form.{Cut, cut_on, cut_of, closed_at, with_last, blocks_of}
+use Rattle.table_file.specs.Cutting.{IsUnfilled, AreFilled, BlocksAreCut, OneCut}
+use Rattle.table_file.specs.Form.{Cut, cut_on, cut_of, closed_at, with_last}
 use Rattle.table_file.proofs.Cuts.{length-none}
 use Rattle.table_file.proofs.Parting.{joined, parts_cut}
 

@@ -1,5 +1,5 @@
 -- Tables that were written, and those that were opened, hold their entries.
-use Rattle.std.proofs.Common.{◌≡◌, ℕ, zero, suc, ◌<◌, ◌∙◌, true, List, [], ◌∷◌, length, map, get_or, ap, subst, arith}
+use Rattle.std.proofs.Common.{◌≡◌, ℕ, zero, suc, ◌<◌, ◌∙◌, List, [], ◌∷◌, length, map, get_or, ap, subst, arith}
 use Rattle.std.specs.List.{Contains}
 use Rattle.bloom.specs.Filter.{may_hold}
 use Rattle.bloom.specs.Laws.{FilterIsLong, AllAreHeld}

@@ -1,14 +1,13 @@
 -- What a maker takes of first entries is at most what it takes of more.
-use Rattle.std.proofs.Common.{◌≡◌, ◌≢◌, ℕ, ◌+◌, ◌<◌, ◌≤◌, ◌⊎◌, inl, inr, List, [], ◌∷◌, ◌++◌, length, refl, sym, ap, ◌∙◌, subst, arith, append_assoc}
+use Rattle.std.proofs.Common.{◌≡◌, ◌≢◌, ℕ, ◌+◌, ◌≤◌, ◌⊎◌, inl, inr, List, [], ◌∷◌, ◌++◌, refl, sym, ap, subst, arith, append_assoc}
 use Rattle.std.proofs.lemmas.List.{append-nil}
 use Rattle.peb_base.specs.Entries.{AscendFrom, AreSorted}
 use Rattle.peb_base.specs.Keys.{Bytes}
 use Rattle.peb_base.specs.declared.entry.Entry.{Entry}
 use Rattle.table_file.specs.Pieces.{Piece, pieces_from, range_of, whole_length, open_length}
 use Rattle.table_file.specs.PieceWriting.{Pushed}
-use Rattle.table_file.specs.Taking.{closed_length}
 use Rattle.table_file.proofs.PieceLaws.{pieces_none}
-use Rattle.table_file.proofs.PieceSteps.{Parted, parted_first, parted_same, parted_next, parted_taken, no_earlier, whole_push}
+use Rattle.table_file.proofs.PieceSteps.{Parted, parted_first, parted_same, parted_next, parted_taken, whole_push}
 use Rattle.table_file.proofs.Taken.{length-pushed, length-rest}
 
 pub open_whole : (full : ℕ) (ps : List Piece) → open_length full ps ≤ whole_length full ps

@@ -1,6 +1,6 @@
 -- Where the bytes of a table are damaged.
-use Rattle.std.proofs.Common.{◌≡◌, ◌≢◌, ◌⊎◌, inl, inr, ℕ, ◌+◌, ◌-◌, ◌<◌, ◌≤◌, ◌^◌, ◌∙◌, List, length, take, drop, refl, sym, ap, arith, length-drop}
-use Rattle.std.specs.Prelude.{min, max}
+use Rattle.std.proofs.Common.{◌≡◌, ◌≢◌, ◌⊎◌, inl, inr, ℕ, ◌-◌, ◌<◌, ◌≤◌, ◌^◌, ◌∙◌, List, length, take, drop, refl, sym, ap, arith, length-drop}
+use Rattle.std.specs.Prelude.{min}
 use Rattle.std.proofs.lemmas.Bool.{cases_eq, cases_lt}
 use Rattle.std.proofs.lemmas.List.{length-take}
 use Rattle.peb_base.specs.declared.table_row.TableRow.{TableRow}
@@ -18,35 +18,40 @@ untold IsPlace Fault none = tt
 untold IsPlace (Damaged table at) none = absurd (none tt)
 untold IsPlace Memory none = tt
 
--- of a row of less than a footer nothing is read
-pub tiny_place : (row : TableRow) (bytes : List ℕ) → row.bytes < 48 → IsPlaceOfDamage row bytes 0
-tiny_place row bytes small = record {
-  tiny = λ lt. refl;
-  other_length = λ le differ. absurd (omega (arith, small, le));
+-- a row leaves no room for a footer
+pub tiny_place : (row : TableRow) (bytes : List ℕ) (at : ℕ) → row.bytes < 48
+    → (length bytes ≡ row.bytes → at ≡ 0) → (length bytes ≢ row.bytes → at ≡ min (length bytes) row.bytes)
+    → IsPlaceOfDamage row bytes at
+tiny_place row bytes at small whole other = record {
+  other_length = other;
+  tiny = λ lt long. whole long;
   no_footer = λ le long none. absurd (omega (arith, small, le));
   footer_stands = λ footer ends. absurd (omega (arith, small, ends.agrees.end));
 }
 
--- so many bytes, at most 49, were read where the footer's are by the row, and they weren't 48
-pub length_place : (row : TableRow) (bytes read : List ℕ) → 48 ≤ row.bytes → read ≡ take 49 (drop (row.bytes - 48) bytes) → length read ≢ 48
-    → IsPlaceOfDamage row bytes (row.bytes - 48 + min (length read) 48)
-length_place row bytes read le is differ =
-    let count : length read ≡ min 49 (length bytes - (row.bytes - 48)) =
-    ap length is ∙ length-take 49 (drop (row.bytes - 48) bytes) ∙ ap (min 49) (length-drop (row.bytes - 48) bytes) in
-    let other : length bytes ≡ row.bytes → ⊥ = λ long. differ (omega (arith, count, long, le)) in
-    record {
-      tiny = λ lt. absurd (omega (arith, lt, le));
-      other_length = λ le differ. omega (arith, count, le);
-      no_footer = λ le long none. absurd (other long);
-      footer_stands = λ footer ends. absurd (other ends.long);
-    }
+-- the bytes aren't as many as the row tells
+pub length_place : (row : TableRow) (bytes : List ℕ) (at : ℕ) → length bytes ≢ row.bytes
+    → at ≡ min (length bytes) row.bytes → IsPlaceOfDamage row bytes at
+length_place row bytes at other is = record {
+  other_length = λ differ. is;
+  tiny = λ lt long. absurd (other long);
+  no_footer = λ le long none. absurd (other long);
+  footer_stands = λ footer ends. absurd (other ends.long);
+}
+
+-- so many bytes, at most 49, were read where the footer's are by the row
+pub tail_count : (row : TableRow) (bytes read : List ℕ) → read ≡ take 49 (drop (row.bytes - 48) bytes)
+    → length read ≡ min 49 (length bytes - (row.bytes - 48))
+tail_count row bytes read is =
+    ap length is ∙ length-take 49 (drop (row.bytes - 48) bytes)
+    ∙ ap (min 49) (length-drop (row.bytes - 48) bytes)
 
 -- 48 bytes were read there, and are no footer that agrees
 pub footer_place : (row : TableRow) (bytes read : List ℕ) → 48 ≤ row.bytes → length bytes ≡ row.bytes → read ≡ drop (row.bytes - 48) bytes
     → ((footer : Footer) → IsFooterOf row footer → read ≢ footer_bytes footer) → IsPlaceOfDamage row bytes (row.bytes - 48)
 footer_place row bytes read le long is none = record {
-  tiny = λ lt. absurd (omega (arith, lt, le));
-  other_length = λ le differ. absurd (differ long);
+  other_length = λ differ. absurd (differ long);
+  tiny = λ lt long. absurd (omega (arith, lt, le));
   no_footer = λ le long none. refl;
   footer_stands = λ footer ends. absurd (none footer ends.agrees (is ∙ ends.spelled));
 }
@@ -54,8 +59,8 @@ footer_place row bytes read le long is none = record {
 -- a footer stands there that agrees
 pub index_place : (row : TableRow) (bytes : List ℕ) (footer : Footer) → row.bytes < 2 ^ 64 → EndsWithFooter row bytes footer → IsPlaceOfDamage row bytes footer.index
 index_place row bytes footer fits ends = record {
-  tiny = λ lt. absurd (omega (arith, lt, ends.agrees.end));
-  other_length = λ le differ. absurd (differ ends.long);
+  other_length = λ differ. absurd (differ ends.long);
+  tiny = λ lt long. absurd (omega (arith, lt, ends.agrees.end));
   no_footer = λ le long none. absurd (none footer ends);
   footer_stands = λ f also.
       ap (λ (x : Footer). x.index) (one_footer row footer f fits ends.agrees also.agrees (sym ends.spelled ∙ also.spelled));
@@ -73,18 +78,18 @@ told_on P Q Memory more told = tt
 -- the places of two tellings are one, where they can't differ otherwise
 place_twice : (row : TableRow) (bytes : List ℕ) (a b : ℕ) → IsPlaceOfDamage row bytes a
     → IsPlaceOfDamage row bytes b → a ≢ b → a ≡ b
-place_twice row bytes a b pa pb differ = by (cases_lt row.bytes 48)
+place_twice row bytes a b pa pb differ = by (cases_eq (length bytes) row.bytes)
   where
     none : (footer : Footer) → EndsWithFooter row bytes footer → ⊥
     none footer ends = differ (pa.footer_stands footer ends ∙ sym (pb.footer_stands footer ends))
 
-    by_length : 48 ≤ row.bytes → (length bytes ≡ row.bytes) ⊎ (length bytes ≡ row.bytes → ⊥) → a ≡ b
-    by_length le (inl long) = pa.no_footer le long none ∙ sym (pb.no_footer le long none)
-    by_length le (inr other) = pa.other_length le other ∙ sym (pb.other_length le other)
+    as_long : length bytes ≡ row.bytes → (row.bytes < 48) ⊎ (48 ≤ row.bytes) → a ≡ b
+    as_long long (inl small) = pa.tiny small long ∙ sym (pb.tiny small long)
+    as_long long (inr le) = pa.no_footer le long none ∙ sym (pb.no_footer le long none)
 
-    by : (row.bytes < 48) ⊎ (48 ≤ row.bytes) → a ≡ b
-    by (inl small) = pa.tiny small ∙ sym (pb.tiny small)
-    by (inr le) = by_length le (cases_eq (length bytes) row.bytes)
+    by : (length bytes ≡ row.bytes) ⊎ (length bytes ≡ row.bytes → ⊥) → a ≡ b
+    by (inl long) = as_long long (cases_lt row.bytes 48)
+    by (inr other) = pa.other_length other ∙ sym (pb.other_length other)
 
 pub one_place : (row : TableRow) (bytes : List ℕ) (a b : ℕ) → IsPlaceOfDamage row bytes a
     → IsPlaceOfDamage row bytes b → a ≡ b

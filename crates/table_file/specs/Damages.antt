@@ -1,5 +1,5 @@
 -- Damage of tables.
-use Rattle.std.specs.Prelude.{◌≡◌, ◌≢◌, ◌⊎◌, ◌+◌, ◌-◌, ◌<◌, ◌≤◌, ℕ, List, length, drop, min, max}
+use Rattle.std.specs.Prelude.{◌≡◌, ◌≢◌, ◌-◌, ◌<◌, ◌≤◌, ℕ, List, length, drop, min}
 use Rattle.peb_base.specs.declared.table_row.TableRow.{TableRow}
 use Rattle.table_file.specs.Form.{footer_bytes}
 use Rattle.table_file.specs.Opening.{IsFooterOf}
@@ -32,20 +32,11 @@ pub record EndsWithFooter (row : TableRow) (bytes : List ℕ) (footer : Footer) 
   pub spelled : drop (row.bytes - 48) bytes ≡ footer_bytes footer
 
 -- The place at which bytes are damaged that aren't those of the row's table: where they end, if they
--- end within the footer's place; the beginning of that, if they end before; the end by the row, if
--- they are longer; the footer's, if it isn't one that agrees; and the index's, if that alone isn't.
+-- are shorter than the row tells; the end by the row, if they are longer; the footer's, if it isn't one
+-- that agrees, or their beginning, if they have no room for one; and the index's, if that alone isn't.
 pub record IsPlaceOfDamage (row : TableRow) (bytes : List ℕ) (at : ℕ) : Type 0 where
-  pub tiny : row.bytes < 48 → at ≡ 0
-  pub other_length : 48 ≤ row.bytes → length bytes ≢ row.bytes →
-      at ≡ min (max (length bytes) (row.bytes - 48)) row.bytes
+  pub other_length : length bytes ≢ row.bytes → at ≡ min (length bytes) row.bytes
+  pub tiny : row.bytes < 48 → length bytes ≡ row.bytes → at ≡ 0
   pub no_footer : 48 ≤ row.bytes → length bytes ≡ row.bytes →
       ((footer : Footer) → EndsWithFooter row bytes footer → ⊥) → at ≡ row.bytes - 48
   pub footer_stands : (footer : Footer) → EndsWithFooter row bytes footer → at ≡ footer.index
-
--- where damage of the row's table may be told, whatever its device tells: at the file's first byte, from
--- the footer's place by the row to the end by the row, or where by a footer that agrees the index or
--- the filter begins
-abbrev pub IsPlaceByRow : TableRow → ℕ → Type 0
-IsPlaceByRow row at =
-    (at ≡ 0) ⊎ ((row.bytes ≤ at + 48) × (at ≤ row.bytes))
-    ⊎ ((footer : Footer) × IsFooterOf row footer × ((at ≡ footer.index) ⊎ (at ≡ footer.filter)))

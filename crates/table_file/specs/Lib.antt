@@ -2,6 +2,7 @@ pub mod Ascending
 pub mod Blocks
 pub mod Cutting
 pub mod Damages
+pub mod Examples
 pub mod Form
 pub mod Gathers
 pub mod Holding

@@ -1,5 +1,5 @@
 -- What a writer of pieces keeps of the entries that were pushed.
-use Rattle.std.specs.Prelude.{◌≡◌, ℕ, suc, ◌+◌, ◌-◌, ◌<◌, ◌≤◌, ◌==◌, Bool, true, false, if◌then◌else◌, List, [], ◌∷◌, ◌++◌, length, Option}
+use Rattle.std.specs.Prelude.{◌≡◌, ◌⊎◌, ℕ, ◌+◌, ◌-◌, ◌==◌, Bool, true, false, if◌then◌else◌, List, [], ◌∷◌, ◌++◌, Option, Some, None}
 use Rattle.std.specs.List.{AllZip}
 use Rattle.disk_model.specs.Tables.{Sealed, with_table}
 use Rattle.disk_model.specs.declared.table_handle.TableHandle.{Ghosts}
@@ -9,7 +9,7 @@ use Rattle.peb_base.specs.Tables.{last_key}
 use Rattle.peb_base.specs.declared.entry.Entry.{Entry}
 use Rattle.table_file.specs.Form.{blocks_of}
 use Rattle.table_file.specs.Limits.{push_fault, blocks_fault}
-use Rattle.table_file.specs.Pieces.{Piece, some_piece, pieces_from, range_of, last_piece, whole_length, open_length}
+use Rattle.table_file.specs.Pieces.{Piece, pieces_from, range_of, last_piece, whole_length, open_length}
 use Rattle.table_file.specs.Tables.{TableParts, IsTableOf, IsRowAt}
 use Rattle.table_file.specs.Writing.{block_length, HasPushed}
 use Rattle.table_file.specs.declared.put_fault.PutFault.{PutFault}
@@ -139,3 +139,7 @@ piece_fault w keys s e =
 abbrev pub sealed_with : {F : Type 0} → Ghosts F → List (TableParts F) → Sealed → Sealed
 sealed_with g [] sealed = sealed
 sealed_with g (t ∷ ts) sealed = sealed_with g ts (with_table t.row.number (g.bytes t.file) sealed)
+
+-- where a number is begun, it is the one of before, or this one
+abbrev pub Begins : ℕ → Option ℕ → Option ℕ → Type 0
+Begins number before now = (now ≡ None) ⊎ (now ≡ before) ⊎ (now ≡ Some number)

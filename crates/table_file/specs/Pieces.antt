@@ -1,9 +1,8 @@
 -- Entries in order, cut into pieces at keys, each with the number of its table.
-use Rattle.std.specs.Prelude.{◌≡◌, ℕ, suc, ◌+◌, ◌-◌, if◌then◌else◌, List, [], ◌∷◌, ◌++◌, length, map, Option, Some, None}
-use Rattle.peb_base.specs.Entries.{AreSorted}
+use Rattle.std.specs.Prelude.{ℕ, suc, ◌+◌, if◌then◌else◌, List, [], ◌∷◌, ◌++◌, length}
 use Rattle.peb_base.specs.Keys.{Bytes, key_lt}
 use Rattle.peb_base.specs.declared.entry.Entry.{Entry}
-use Rattle.flsm_model.specs.Compaction.{before_key, from_key, pieces}
+use Rattle.flsm_model.specs.Compaction.{before_key, from_key}
 use Rattle.table_file.specs.Form.{table_bytes}
 use Rattle.table_file.specs.Taking.{closed_length}
 

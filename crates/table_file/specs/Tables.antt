@@ -1,5 +1,5 @@
 -- What a table is, and what it holds.
-use Rattle.std.specs.Prelude.{◌≡◌, ℕ, ◌<◌, ◌≤◌, Bool, IsTrue, List, length}
+use Rattle.std.specs.Prelude.{◌≡◌, ℕ, ◌<◌, ◌≤◌, IsTrue, List, length}
 use Rattle.disk_model.specs.declared.table_handle.TableHandle.{Ghosts}
 use Rattle.peb_base.specs.Entries.{AreSorted}
 use Rattle.peb_base.specs.Tables.{IsRowOf}

@@ -10,6 +10,7 @@ ghost use Rattle.peb_base.specs.declared.entry.Entry.{Entry};
 ghost use Rattle.table_file.specs.Blocks.{AreBlocks};
 ghost use Rattle.table_file.specs.Cutting.{BlocksAreCut, OneCut};
 ghost use Rattle.table_file.specs.Damages.{IsPlaceOfDamage};
+ghost use Rattle.table_file.specs.Examples.{LimitsStand, RefusalsStand, CountsStand, DamagesStand};
 ghost use Rattle.table_file.specs.Form.{blocks_of, items_from, index_bytes, key_filter, table_bytes};
 ghost use Rattle.table_file.specs.Opening.{OpensAs};
 ghost use Rattle.table_file.specs.Holding.{WrittenHolds, OpenedHolds, KeysAreHeld};
@@ -23,6 +24,14 @@ use disk_model::TableHandle;
 pub fn one_opening()
     ensures { (row : TableRow) (a b : List IndexItem) (f g bytes : List ℕ) → row.bytes < 2 ^ 64
         → OpensAs row a f bytes → OpensAs row b g bytes → (a ≡ b) × (f ≡ g) }
+{}
+
+/// What the words for limits, counts of bytes and damage rule out.
+pub fn law_told()
+    ensures limits { LimitsStand }
+    ensures refusals { RefusalsStand }
+    ensures counts { CountsStand }
+    ensures damages { DamagesStand }
 {}
 
 /// Bytes are damaged at one place at most, by a row.

@@ -6,6 +6,7 @@
 //! a footer. It may not know what the writer keeps of the entries that it has written.
 #![tactic(auto)]
 
+mod ending;
 mod filling;
 mod finished;
 mod footer;
@@ -33,8 +34,8 @@ mod tests;
 pub use finished::Finished;
 pub use index_item::IndexItem;
 pub use laws::{
-    law_blocks, law_cut, law_held, law_holds, law_length, one_opening, one_place, opens_as_written,
-    written_opens,
+    law_blocks, law_cut, law_held, law_holds, law_length, law_told, one_opening, one_place,
+    opens_as_written, written_opens,
 };
 pub use piece_laws::law_pieces;
 pub use piece_writer::PieceWriter;

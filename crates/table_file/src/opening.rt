@@ -1,12 +1,13 @@
 //! Opening tables.
 
-ghost use Rattle.std.specs.Prelude.{◌≡◌, ◌+◌, ◌-◌, ◌<◌, ◌≤◌, ◌^◌, List, ℕ, None, Some, Err, length, take, drop, IsTrue, IfOk, IfErr};
-ghost use Rattle.table_file.specs.Damages.{IsDamage, TellsTable, IsToldAt, EndsWithFooter, IsPlaceOfDamage, IsPlaceByRow};
+ghost use Rattle.std.specs.Prelude.{◌≡◌, ◌≢◌, ◌+◌, ◌-◌, ◌<◌, ◌≤◌, ◌^◌, List, ℕ, None, Some, Err, length, min, take, drop, IsTrue, IfOk, IfErr, OnOk};
+ghost use Rattle.table_file.specs.Damages.{IsDamage, TellsTable, IsToldAt, EndsWithFooter, IsPlaceOfDamage};
 ghost use Rattle.table_file.specs.Form.{footer_bytes, index_bytes};
 ghost use Rattle.table_file.specs.Opening.{IsFooterOf, IsIndex, IsNoTable, OpensAs, FitsRow};
 ghost use Rattle.disk_model.specs.Ports.{ReadsAtMost};
 ghost use Rattle.table_file.specs.declared.table_fault.TableFault.TheVariants.{Fault};
 
+use crate::ending::end_within;
 use crate::footer::{Footer, footer_for};
 use crate::index_fault::IndexFault;
 use crate::index_item::IndexItem;
@@ -45,6 +46,66 @@ fn read_at<P: Port>(
     Ok(bytes)
 }
 
+/// What is told of a file that hasn't 48 bytes where by its row the last 48 begin, but so many, at
+/// most 49: the place where it ends, or the end by the row, if it is longer.
+fn length_fault<P: Port>(port: &mut P, file: &P::File, row: &TableRow, count: usize) -> TableFault
+    requires room { 48 ≤ row.now.bytes }
+    requires count { count ≤ 49 }
+    ensures place { IsTrue P.File.tells
+        → count ≡ min 49 (length (P.File.bytes file.now) - (row.now.bytes - 48))
+        → IsToldAt (λ place. place ≡ min (length (P.File.bytes file.now)) row.now.bytes) result }
+    ensures by_row { IsToldAt (λ at. at ≤ row.now.bytes) result }
+    ensures table { TellsTable row.now.number result }
+    ensures port { ReadsAtMost P.Port 64 port.old port.new (result ≡ Fault) }
+{
+    let at = row.bytes - 48;
+    if count > 0 {
+        return TableFault::Damaged {
+            table: row.number,
+            at: at + count.min(48) as u64,
+        };
+    }
+    match end_within(port, file, at) {
+        Ok(at) => TableFault::Damaged {
+            table: row.number,
+            at,
+        },
+        Err(why) => why,
+    }
+}
+
+/// The place of damage in a file that ends here and should be so long, with no room for a footer.
+fn place_in_tiny(end: u64, length: u64) -> u64
+    ensures whole { end ≡ length → result ≡ 0 }
+    ensures other { end ≢ length → result ≡ min end length }
+{
+    if end == length {
+        return 0;
+    }
+    end.min(length)
+}
+
+/// What is told of a file whose row leaves no room for a footer: the place where it ends, or the end
+/// by the row, if it is longer; its beginning, if it is as long as the row tells.
+fn tiny_fault<P: Port>(alloc: Global, port: &mut P, file: &P::File, row: &TableRow) -> TableFault
+    requires { row.now.bytes < 48 }
+    ensures place { IsTrue P.File.tells →
+        IsToldAt (IsPlaceOfDamage row.now (P.File.bytes file.now)) result }
+    ensures by_row { IsToldAt (λ at. at ≤ row.now.bytes) result }
+    ensures table { TellsTable row.now.number result }
+    ensures port { ReadsAtMost P.Port 1 port.old port.new (result ≡ Fault) }
+{
+    let bytes = match read_at(alloc, port, file, 0, 49) {
+        Ok(bytes) => bytes,
+        Err(why) => return why,
+    };
+    let end = bytes.as_slice().len() as u64;
+    TableFault::Damaged {
+        table: row.number,
+        at: place_in_tiny(end, row.bytes),
+    }
+}
+
 /// The footer of the table, whose file has at least 48 bytes by its row.
 fn read_footer<P: Port>(
     alloc: Global,
@@ -63,9 +124,10 @@ fn read_footer<P: Port>(
         (λ why. IsDamage why → IsTrue P.File.tells → IsNoTable row.now (P.File.bytes file.now)) }
     ensures place { IfErr result (λ why. IsTrue P.File.tells →
         IsToldAt (IsPlaceOfDamage row.now (P.File.bytes file.now)) why) }
-    ensures by_row { IfErr result (IsToldAt (IsPlaceByRow row.now)) }
+    ensures by_row { IfErr result (IsToldAt (λ at. at ≤ row.now.bytes)) }
     ensures table { IfErr result (TellsTable row.now.number) }
-    ensures port { ReadsAtMost P.Port 1 port.old port.new (result ≡ Err Fault) }
+    ensures port { ReadsAtMost P.Port 65 port.old port.new (result ≡ Err Fault) }
+    ensures once { OnOk result (P.reads port.new ≤ P.reads port.old + 1) }
 {
     let at = row.bytes - 48;
     let bytes = match read_at(alloc, port, file, at, 49) {
@@ -74,11 +136,7 @@ fn read_footer<P: Port>(
     };
     let bytes = bytes.as_slice();
     if bytes.len() != 48 {
-        let at = at + bytes.len().min(48) as u64;
-        return Err(TableFault::Damaged {
-            table: row.number,
-            at,
-        });
+        return Err(length_fault(port, file, row, bytes.len()));
     }
     match footer_for(row, bytes) {
         Some(footer) => Ok(footer),
@@ -172,10 +230,12 @@ fn read_filter<P: Port>(
 impl<F: TableHandle> Table<F> {
     /// Opens the table of a row: finds its file, and reads footer, index and filter, in this order.
     ///
+    /// It makes three reads at most, and up to 62 more to find where a file ends that is too short.
+    ///
     /// `Damaged` comes only where the file isn't there, or where its length, its footer, its index or the
-    /// filter's length disagree with the row, and tells the first place of these; over devices that don't
-    /// tell their bytes one of the places where these stand by the row. `Fault` comes only where the port's
-    /// count of faults rose.
+    /// filter's length disagree with the row, and tells the first place of these: the file's length, where
+    /// it is shorter than the row tells. Over devices that don't tell their bytes that place isn't behind
+    /// the row's end. `Fault` comes only where the port's count of faults rose.
     pub fn open<P: Port<File = F>>(
         alloc: Global,
         port: &mut P,
@@ -199,11 +259,13 @@ impl<F: TableHandle> Table<F> {
             IsToldAt (IsPlaceOfDamage row bytes) why) }
         ensures absent { IfErr result (λ why. IsTrue F.tells →
             (P.table_files port.old).sealed row.number ≡ None → IsToldAt (λ at. at ≡ 0) why) }
-        ensures by_row { IfErr result (IsToldAt (IsPlaceByRow row)) }
-        ensures tiny { row.bytes < 48 → IfErr result (IsToldAt (λ at. at ≡ 0)) }
+        ensures by_row { IfErr result (IsToldAt (λ at. at ≤ row.bytes)) }
         ensures table { IfErr result (TellsTable row.number) }
         // what stays
-        ensures port { ReadsAtMost P.Port 3 port.old port.new (result ≡ Err Fault) }
+        ensures port { ReadsAtMost P.Port 65 port.old port.new (result ≡ Err Fault) }
+        ensures few { OnOk result (P.reads port.new ≤ P.reads port.old + 3) }
+        ensures unread { IsTrue F.tells → (P.table_files port.old).sealed row.number ≡ None
+            → P.reads port.new ≡ P.reads port.old }
     {
         let found = match port.find(row.number) {
             Ok(found) => found,
@@ -219,10 +281,7 @@ impl<F: TableHandle> Table<F> {
             }
         };
         if row.bytes < 48 {
-            return Err(TableFault::Damaged {
-                table: row.number,
-                at: 0,
-            });
+            return Err(tiny_fault(alloc, port, &file, &row));
         }
         let footer = match read_footer(alloc, port, &file, &row) {
             Ok(footer) => footer,

@@ -10,7 +10,7 @@ ghost use Rattle.peb_base.specs.Keys.{Bytes};
 ghost use Rattle.table_file.specs.Form.{blocks_of};
 ghost use Rattle.table_file.specs.Limits.{blocks_fault, IsRefused};
 ghost use Rattle.table_file.specs.Pieces.{Piece, range_of};
-ghost use Rattle.table_file.specs.PieceWriting.{Making, Pushed, nothing, making, full_length, all_pieces, taken_by, left_of, open_entries, piece_fault, with_more, next_input, sealed_with, AreTablesOf, HasCut, Writes};
+ghost use Rattle.table_file.specs.PieceWriting.{Begins, Making, Pushed, nothing, making, full_length, all_pieces, taken_by, left_of, open_entries, piece_fault, with_more, next_input, sealed_with, AreTablesOf, HasCut, Writes};
 ghost use Rattle.table_file.specs.Taking.{pushed_length, rest_length, Takes};
 ghost use Rattle.table_file.specs.declared.put_fault.PutFault.TheVariants.{Fault};
 
@@ -98,8 +98,8 @@ impl<F: TableHandle> PieceWriter<F> {
     ///
     /// `Limit` comes exactly where the range's table refuses the entry, or the table before can't
     /// be closed. `Fault` comes only where the maker's count of faults rose. After an error the
-    /// writer is good for nothing, and the maker has taken some first bytes of what it would have
-    /// taken, or none.
+    /// writer is good for nothing, the maker has taken some first bytes of what it would have taken,
+    /// or none, and it has begun no other number than before and that of the range.
     pub fn push<M: Maker<File = F>>(
         &mut self,
         maker: &mut M,
@@ -128,6 +128,8 @@ impl<F: TableHandle> PieceWriter<F> {
         ensures elsewhere { IsTrue F.tells → (n : ℕ)
             → (n < self.old.numbers) ⊎ (self.old.numbers + length keys.now < n)
             → M.sealed maker.new n ≡ M.sealed maker.old n }
+        ensures begun { Begins (self.old.numbers + range_of (entry_of entry.entry).key keys.now)
+            (M.begun maker.old) (M.begun maker.new) }
         // when it fails
         ensures limit { (s : Pushed)
             → HasCut F.TableHandle (making F.tells (M.begun maker.old) (M.written maker.old))
@@ -181,6 +183,7 @@ impl<F: TableHandle> PieceWriter<F> {
             → M.sealed maker.new ≡ sealed_with F.TableHandle self.new.tables base) }
         ensures elsewhere { IsTrue F.tells → (n : ℕ) → n ≢ self.old.writer.number
             → M.sealed maker.new n ≡ M.sealed maker.old n }
+        ensures begun { (M.begun maker.new ≡ None) ⊎ (M.begun maker.new ≡ M.begun maker.old) }
         // when it fails
         ensures limit { (keys : List Bytes) (s : Pushed)
             → HasCut F.TableHandle (making F.tells (M.begun maker.old) (M.written maker.old))
@@ -233,6 +236,7 @@ impl<F: TableHandle> PieceWriter<F> {
             ≡ sealed_with F.TableHandle (map arc_value tables.items) base) }
         ensures elsewhere { IsTrue F.tells → (n : ℕ) → n ≢ self.writer.number
             → M.sealed maker.new n ≡ M.sealed maker.old n }
+        ensures begun { (M.begun maker.new ≡ None) ⊎ (M.begun maker.new ≡ M.begun maker.old) }
         // when it fails
         ensures limit { (keys : List Bytes) (s : Pushed)
             → HasCut F.TableHandle (making F.tells (M.begun maker.old) (M.written maker.old))
@@ -270,6 +274,7 @@ impl<F: TableHandle> PieceWriter<F> {
         // what it leaves
         ensures taken { Takes (pushed_length (full_length self.old) [] (entry_of entry.entry))
             (M.taken maker.old) (M.taken maker.new) result }
+        ensures own { Begins (self.old.numbers + at) (M.begun maker.old) (M.begun maker.new) }
         // when it fails
         ensures limit { IsRefused None result }
         ensures later { M.faults maker.old ≤ M.faults maker.new }
@@ -318,6 +323,8 @@ impl<F: TableHandle> PieceWriter<F> {
             → M.sealed maker.new ≡ sealed_with F.TableHandle self.new.tables base) }
         ensures elsewhere { IsTrue F.tells → (n : ℕ) → n ≢ self.old.writer.number
             → M.sealed maker.new n ≡ M.sealed maker.old n }
+        ensures begun { (M.begun maker.new ≡ None) ⊎ (M.begun maker.new ≡ M.begun maker.old) }
+        ensures ended { OnOk result (M.begun maker.new ≡ None) }
         // when it fails
         ensures limit { (p : Piece)
             → Writes (making F.tells (M.begun maker.old) (M.written maker.old)) self.old p
@@ -364,6 +371,7 @@ impl<F: TableHandle> PieceWriter<F> {
             → M.sealed maker.new ≡ sealed_with F.TableHandle self.new.tables base) }
         ensures elsewhere { IsTrue F.tells → (n : ℕ) → n ≢ self.old.writer.number
             → M.sealed maker.new n ≡ M.sealed maker.old n }
+        ensures begun { (M.begun maker.new ≡ None) ⊎ (M.begun maker.new ≡ M.begun maker.old) }
         // when it fails
         ensures limit { (keys : List Bytes) (s : Pushed)
             → HasCut F.TableHandle (making F.tells (M.begun maker.old) (M.written maker.old))

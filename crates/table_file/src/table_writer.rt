@@ -154,6 +154,7 @@ fn write_tail<M: Maker>(
     ensures taken { Takes (length index.now + (length filter.now + 48))
         (M.taken maker.old) (M.taken maker.new) result }
     ensures ended { OnOk result (M.begun maker.new ≡ None) }
+    ensures unended { OnErr result (M.begun maker.new ≡ M.begun maker.old) }
     ensures unsealed { OnErr result (M.sealed maker.new ≡ M.sealed maker.old) }
     ensures gone { M.gone maker.new ≡ M.gone maker.old }
     ensures later { M.faults maker.old ≤ M.faults maker.new }
@@ -195,6 +196,7 @@ fn seal_table<M: Maker>(
         → Takes (length (blocks_table number blocks es) - length (body_bytes blocks))
         (M.taken maker.old) (M.taken maker.new) result }
     ensures ended { OnOk result (M.begun maker.new ≡ None) }
+    ensures unended { OnErr result (M.begun maker.new ≡ M.begun maker.old) }
     ensures unsealed { OnErr result (M.sealed maker.new ≡ M.sealed maker.old) }
     ensures gone { M.gone maker.new ≡ M.gone maker.old }
     ensures later { M.faults maker.old ≤ M.faults maker.new }
@@ -243,13 +245,18 @@ impl TableWriter {
 
     /// Begins the table of this number, which is to be one of this level. The maker takes no byte.
     ///
-    /// `Fault` comes only where the maker's count of faults rose.
+    /// `Fault` comes only where the maker's count of faults rose; then what it had begun is begun as
+    /// before, or nothing is.
     pub fn start<M: Maker>(&mut self, maker: &mut M, number: u64, level: u8) -> Result<(), PutFault>
         // what it gives
         ensures begun { OnOk result
             (HasPushed M.File.tells (M.begun maker.new) (M.written maker.new) self.new []) }
         ensures number { OnOk result (self.new.number ≡ number) }
         ensures level { OnOk result (self.new.level ≡ level) }
+        // what it leaves
+        ensures earlier { OnErr result ((M.begun maker.new ≡ None)
+            ⊎ ((M.begun maker.new ≡ M.begun maker.old)
+            × (M.written maker.new ≡ M.written maker.old))) }
         // when it fails
         ensures fault { IfErr result (λ why. why ≡ PutFault.Fault) }
         ensures later { M.faults maker.old ≤ M.faults maker.new }
@@ -305,6 +312,7 @@ impl TableWriter {
         ensures number { self.new.number ≡ self.old.number }
         ensures level { self.new.level ≡ self.old.level }
         ensures block { block_length self.new ≡ block_length self.old }
+        ensures begun { M.begun maker.new ≡ M.begun maker.old }
         ensures sealed { M.sealed maker.new ≡ M.sealed maker.old }
         ensures gone { M.gone maker.new ≡ M.gone maker.old }
     {
@@ -354,6 +362,7 @@ impl TableWriter {
             ≡ with_table self.old.number (M.File.bytes table.file) (M.sealed maker.old)) }
         ensures unsealed { OnErr result (M.sealed maker.new ≡ M.sealed maker.old) }
         ensures ended { OnOk result (M.begun maker.new ≡ None) }
+        ensures unended { OnErr result (M.begun maker.new ≡ M.begun maker.old) }
         ensures taken { (es : List Entry)
             → HasPushed M.File.tells (M.begun maker.old) (M.written maker.old) self.old es
             → 0 < length es

@@ -158,9 +158,11 @@ fn a_table_is_opened_where_footer_index_and_filter_agree(rt: HostRuntime) -> Res
     let alloc = rt.alloc();
     assert_eq!(rt; opened(alloc, &TABLE)?, Told::Opened(1));
     assert_eq!(rt; opened(alloc, &TABLE[..110])?, Told::Damaged(110));
-    // Behind place 63 the footer ends early; before it ends before it begins.
+    // Behind place 63 the footer ends early; before, the file ends before its footer's place.
     assert_eq!(rt; opened(alloc, &TABLE[..64])?, Told::Damaged(64));
-    assert_eq!(rt; opened(alloc, &TABLE[..40])?, Told::Damaged(63));
+    assert_eq!(rt; opened(alloc, &TABLE[..40])?, Told::Damaged(40));
+    assert_eq!(rt; opened(alloc, &TABLE[..0])?, Told::Damaged(0));
+    assert_eq!(rt; opened(alloc, &TABLE[..63])?, Told::Damaged(63));
     // A block and the filter's bits, the count of items, a place, a length, a key's length, a number;
     // then the footer's parts.
     for (at, value, want) in [

@@ -1,8 +1,8 @@
-use Rattle.std.proofs.Common.{◌≡◌, ◌+◌, ◌-◌, ◌∙◌, inl, inr, length, take, drop, ap, sym, subst, arith, length-drop}
+use Rattle.std.proofs.Common.{◌≡◌, ◌≢◌, ◌-◌, ◌∙◌, length, take, drop, ap, sym, arith, length-drop}
 use Rattle.std.specs.Prelude.{min}
 use Rattle.table_file.specs.Damages.{IsPlaceOfDamage}
 use Rattle.table_file.proofs.Openings.{tail_long, whole_tail}
-use Rattle.table_file.proofs.Placing.{length_place, footer_place}
+use Rattle.table_file.proofs.Placing.{length_place, tail_count, footer_place, told_on}
 use Rattle.table_file.proofs.Spelled.{length-footer}
 use Rattle.table_file.proofs.opening.read_footer.Goals as goal
 
@@ -35,9 +35,10 @@ returns-then-bytes-ne48-clause-place g c = λ told.
     let read = c.as_slice-bytes.ensures.value ∙ c.in-Ok.ensures.bytes told in
     let row = c.args.row.now in
     let bytes = g.P.File.TableHandle.bytes c.args.file.now in
-    let count : min (length c.as_slice-bytes.result.now) 48 ≡ c.min.result = omega arith in
-    subst (λ n. IsPlaceOfDamage row bytes (row.bytes - 48 + n)) count
-    (length_place row bytes c.as_slice-bytes.result.now c.requires read c.if-bytes-ne48.true)
+    let count = tail_count row bytes c.as_slice-bytes.result.now read in
+    let other : length bytes ≢ row.bytes = λ long. c.if-bytes-ne48.true (omega (arith, count, long, c.requires)) in
+    told_on (λ at. at ≡ min (length bytes) row.bytes) (IsPlaceOfDamage row bytes) c.length_fault.result
+    (λ at is. length_place row bytes at other is) (c.length_fault.ensures.place told count)
 
 pub returns-clause-place : goal.returns-clause-place
 returns-clause-place g c = λ told.
@@ -49,9 +50,5 @@ returns-clause-place g c = λ told.
     omega (arith, c.requires, ap length read, c.if-bytes-ne48.false, ap length whole, length-drop (c.args.row.now.bytes - 48) bytes) in
     footer_place c.args.row.now bytes c.as_slice-bytes.result.now c.requires long (read ∙ whole) c.in-None.ensures.none
 
-pub returns-then-bytes-ne48-clause-by_row : goal.returns-then-bytes-ne48-clause-by_row
-returns-then-bytes-ne48-clause-by_row g c =
-    inr (inl (omega (arith, c.requires), omega (arith, c.requires)))
-
 pub returns-clause-by_row : goal.returns-clause-by_row
-returns-clause-by_row g c = inr (inl (omega (arith, c.requires), omega (arith, c.requires)))
+returns-clause-by_row g c = omega arith

@@ -1,10 +1,10 @@
-use Rattle.std.proofs.Common.{◌≡◌, ◌<◌, ℕ, ◌∷◌, ◌++◌, ◌∙◌, [], List, map, ap, sym, subst, length}
+use Rattle.std.proofs.Common.{◌≡◌, ◌<◌, ◌∷◌, ◌++◌, ◌∙◌, [], List, map, ap, sym, subst, length}
 use Rattle.std.specs.Arc.{arc_value}
 use Rattle.std.proofs.lemmas.List.{map-append}
 use Rattle.disk_model.specs.Tables.{Sealed, with_table}
 use Rattle.table_file.specs.PieceWriting.{PieceParts, full_length, AreTablesOf, IsTableOfPiece, sealed_with, making, Writes}
 use Rattle.table_file.specs.Pieces.{Piece}
-use Rattle.table_file.specs.Tables.{TableParts, IsRowAt}
+use Rattle.table_file.specs.Tables.{TableParts}
 use Rattle.table_file.proofs.PieceSteps.{zip_push, sealed_push}
 use Rattle.table_file.proofs.piece_writer.PieceWriter.close.Goals as goal
 

@@ -1,7 +1,6 @@
-use Rattle.std.proofs.Common.{◌≡◌, ◌∙◌, ◌-◌, ℕ, List, Option, Result, ap, sym, subst, arith, rules}
-use Rattle.peb_base.specs.Keys.{Bytes}
+use Rattle.std.proofs.Common.{◌∙◌, ℕ, Option, ap, sym, arith}
 use Rattle.table_file.specs.Limits.{IsRefused}
-use Rattle.table_file.specs.PieceWriting.{PieceParts, Pushed, full_length, making, HasCut}
+use Rattle.table_file.specs.PieceWriting.{PieceParts}
 use Rattle.table_file.specs.Taking.{Takes}
 use Rattle.table_file.specs.declared.put_fault.PutFault.{PutFault}
 use Rattle.table_file.proofs.PiecePushes.{all_closed, none_left, none_refused, taken_last, fault_last}

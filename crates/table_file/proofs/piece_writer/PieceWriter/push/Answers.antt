@@ -1,4 +1,4 @@
-use Rattle.std.proofs.Common.{◌≡◌, ◌≢◌, ◌≤◌, ◌<◌, ◌+◌, ◌-◌, ◌⊎◌, ◌++◌, ◌∷◌, ◌∙◌, ℕ, [], List, Option, None, Err, OnOk, IsTrue, length, ap, sym, subst, refl, arith, true, false}
+use Rattle.std.proofs.Common.{◌≡◌, ◌≤◌, ◌+◌, ◌-◌, ◌++◌, ◌∷◌, ◌∙◌, ℕ, [], List, Option, None, Err, OnOk, ap, sym, subst, arith}
 use Rattle.std.proofs.lemmas.Result.{on_ok_weaker}
 use Rattle.peb_base.specs.Entries.{AreSorted}
 use Rattle.peb_base.specs.EntryRefs.{entry_of}
@@ -9,10 +9,10 @@ use Rattle.table_file.specs.Pieces.{range_of}
 use Rattle.table_file.specs.Limits.{IsRefused}
 use Rattle.table_file.specs.Writing.{HasPushed}
 use Rattle.table_file.specs.declared.put_fault.PutFault.{PutFault}
-use Rattle.table_file.specs.PieceWriting.{PieceParts, Pushed, Making, full_length, making, taken_by, with_more, piece_fault, AreTablesOf, HasCut}
+use Rattle.table_file.specs.PieceWriting.{PieceParts, Pushed, full_length, making, taken_by, with_more, piece_fault, AreTablesOf, HasCut}
 use Rattle.table_file.specs.Taking.{pushed_length, rest_length, Takes, TakesAtMost}
 use Rattle.table_file.specs.TakingLaws.{takes_then, takes_less}
-use Rattle.table_file.proofs.PiecePushes.{SameRest, Begun, at_below, cut_first, taken_first, next_fits, one_sorted, within, cut_same, taken_same, cut_next, taken_next, fault_first, fault_same, fault_next}
+use Rattle.table_file.proofs.PiecePushes.{Begun, at_below, cut_first, taken_first, next_fits, one_sorted, within, cut_same, taken_same, cut_next, taken_next, fault_first, fault_same, fault_next}
 use Rattle.table_file.proofs.piece_writer.PieceWriter.push.Goals as goal
 
 pub range_from-at-requires : goal.range_from-at-requires

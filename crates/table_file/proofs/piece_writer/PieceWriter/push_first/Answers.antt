@@ -1,4 +1,4 @@
-use Rattle.std.proofs.Common.{◌≡◌, [], None, Option, subst}
+use Rattle.std.proofs.Common.{[], Option, subst}
 use Rattle.peb_base.specs.EntryRefs.{entry_of}
 use Rattle.table_file.specs.Limits.{IsRefused}
 use Rattle.table_file.specs.declared.put_fault.PutFault.{PutFault}

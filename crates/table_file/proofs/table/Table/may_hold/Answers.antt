@@ -1,4 +1,4 @@
-use Rattle.std.proofs.Common.{◌≡◌, ◌∙◌, List, ap, sym}
+use Rattle.std.proofs.Common.{◌≡◌, ◌∙◌, ap, sym}
 use Rattle.bloom.specs.Filter.{may_hold}
 use Rattle.peb_base.specs.Choice.{mixed}
 use Rattle.table_file.proofs.table.Table.may_hold.Goals as goal

@@ -1,7 +1,6 @@
-use Rattle.std.proofs.Common.{◌≡◌, ◌∙◌, inl, inr, List, ℕ, Some, ap, sym, subst, refl, arith, rules}
+use Rattle.std.proofs.Common.{◌≡◌, ◌≤◌, ◌∙◌, List, ℕ, Some, sym, subst, refl, arith, rules}
 use Rattle.table_file.specs.Form.{index_bytes}
 use Rattle.table_file.specs.Opening.{OpensAs}
-use Rattle.table_file.specs.Damages.{IsPlaceByRow}
 use Rattle.table_file.proofs.Openings.{opens}
 use Rattle.table_file.proofs.Placing.{told_on}
 use Rattle.table_file.proofs.Searching.{index_ascends, index_short}
@@ -39,15 +38,16 @@ invariant_of-result g c = record {
 pub returns-in-Err-read_index-clause-by_row : goal.returns-in-Err-read_index-clause-by_row
 returns-in-Err-read_index-clause-by_row g c =
     let f = c.in-Ok-read_footer.footer in
-    told_on (λ at. at ≡ f.index) (IsPlaceByRow c.args.row) c.in-Err-read_index.why
-    (λ at is. inr (inr (f, c.in-Ok-read_footer.ensures.agrees, inl is)))
+    let agrees = c.in-Ok-read_footer.ensures.agrees in
+    told_on (λ at. at ≡ f.index) (λ at. at ≤ c.args.row.bytes) c.in-Err-read_index.why
+    (λ at is. omega (arith, is, agrees.adjoin, agrees.end))
     c.in-Err-read_index.ensures.by_footer
 
 pub returns-in-Err-read_filter-clause-by_row : goal.returns-in-Err-read_filter-clause-by_row
 returns-in-Err-read_filter-clause-by_row g c =
     let f = c.in-Ok-read_footer.footer in
-    told_on (λ at. at ≡ f.filter) (IsPlaceByRow c.args.row) c.in-Err-read_filter.why
-    (λ at is. inr (inr (f, c.in-Ok-read_footer.ensures.agrees, inr is)))
+    told_on (λ at. at ≡ f.filter) (λ at. at ≤ c.args.row.bytes) c.in-Err-read_filter.why
+    (λ at is. omega (arith, is, c.in-Ok-read_footer.ensures.agrees.end))
     c.in-Err-read_filter.ensures.place
 
 pub returns-clause-fits : goal.returns-clause-fits
