@@ -15,7 +15,7 @@ use Rattle.peb_base.specs.declared.table_row.TableRow.{TableRow}
 use Rattle.peb_base.specs.declared.read_fault.ReadFault.{ReadFault}
 use Rattle.peb_base.specs.declared.read_fault.ReadFault.TheVariants as reads
 use Rattle.table_file.specs.Ascending.{front_ascends}
-use Rattle.table_file.specs.Damages.{IsDamage, IsToldAt, IsPlaceByRow}
+use Rattle.table_file.specs.Damages.{IsDamage, IsToldAt}
 use Rattle.table_file.specs.Form.{blocks_of, table_bytes}
 use Rattle.table_file.specs.Holding.{IsOpenedOver}
 use Rattle.table_file.specs.Limits.{index_fault, push_fault, blocks_fault, IsRefused}
@@ -170,14 +170,6 @@ pub opening_told : (P : ℕ → Type 0) (Q : ℕ → ℕ → Type 0) (why : Tabl
 opening_told P Q tables.Fault more told = tt
 opening_told P Q (tables.Damaged number at) more told = more number at told
 opening_told P Q tables.Memory more told = tt
-
--- the places that a row tells lie within its length
-pub place_within : (row : TableRow) (at : ℕ) → IsPlaceByRow row at → at ≤ row.bytes
-place_within row at (inl none) = omega (arith, none)
-place_within row at (inr (inl by_end)) = by_end.1
-place_within row at (inr (inr (footer, agrees, inl is))) =
-    omega (arith, is, agrees.adjoin, agrees.end)
-place_within row at (inr (inr (footer, agrees, inr is))) = omega (arith, is, agrees.end)
 
 items_end : (place : ℕ) (before : Bytes) (above end : ℕ) (items : List IndexItem)
     → AreItems place before above end items → place ≤ end

@@ -1,6 +1,6 @@
 //! Looking an entry up without a cursor.
 
-ghost use Rattle.std.specs.Prelude.{◌≡◌, ◌<◌, IsTrue, IfOk, IfSome, Err, List, length, option_map};
+ghost use Rattle.std.specs.Prelude.{◌≡◌, ◌<◌, ◌≤◌, IsTrue, IsOk, IfOk, IfSome, Err, List, length, option_map};
 ghost use Rattle.peb_base.specs.Cursors.{IfDamage};
 ghost use Rattle.peb_base.specs.EntryRefs.{entry_of};
 ghost use Rattle.peb_base.specs.declared.entry.Entry.{Entry};
@@ -66,6 +66,9 @@ pub fn look_up<'k, P: Port>(
     ensures own { IfOk result
         (λ found. IfSome found
         (λ e. IsFound P.File.TableHandle table.now key.now number (entry_of e))) }
+    // what it leaves
+    ensures beyond { length table.now.items ≤ index_for key.now number table.now.items
+        → IsOk result × (port.new ≡ port.old) }
     // when it fails
     ensures damage { IfDamage result
         (IsDamageAt P.File.TableHandle table.now (index_for key.now number table.now.items)) }

@@ -170,6 +170,7 @@ impl<P: Port> TableCursor<P> {
     /// To the last entry.
     fn last_step(&self) -> Step
         ensures fits { Fits result self.now.page }
+        ensures last { result ≡ Step.Last (length (arc_value self.now.table).items - 1) }
         ensures turns { TurnsTo result (length (arc_value self.now.table).items - 1) }
         ensures leads { (es : List Entry)
             → (holds : Holds P.File.TableHandle (arc_value self.now.table) es)
@@ -219,6 +220,8 @@ impl<P: Port> TableCursor<P> {
             ≡ first_spot (arc_value self.old.table).items index) }
         ensures unread { index ≡ self.old.index → 0 < length self.old.page.entries
             → IsOk result × (self.new.port ≡ self.old.port) }
+        ensures beyond { length (arc_value self.old.table).items ≤ index
+            → IsOk result × (self.new.port ≡ self.old.port) }
         ensures damage { IfDamage result
             (IsDamageAt P.File.TableHandle (arc_value self.old.table) index) }
         ensures turns { Turns self.old self.new result }
@@ -243,6 +246,8 @@ impl<P: Port> TableCursor<P> {
         ensures lands { OnOk result
             (spot self.new.index self.new.page
             ≡ last_spot (arc_value self.old.table).items index self.new.page) }
+        ensures unread { index ≡ self.old.index → 0 < length self.old.page.entries
+            → IsOk result × (self.new.port ≡ self.old.port) }
         ensures damage { IfDamage result
             (IsDamageAt P.File.TableHandle (arc_value self.old.table) index) }
         ensures turns { Turns self.old self.new result }
@@ -274,6 +279,9 @@ impl<P: Port> TableCursor<P> {
             → IsTrue P.File.tells
             → LeadsTo (OnPage self.new.page self.new.index (blocks_of holds.full es) es)
             (target step self.old.index (blocks_of holds.full es)) result }
+        ensures unread { (index : ℕ) → step ≡ Step.Last index → index ≡ self.old.index
+            → 0 < length self.old.page.entries
+            → IsOk result × (self.new.port ≡ self.old.port) }
         ensures damage { (index : ℕ) → TurnsTo step index →
             IfDamage result (IsDamageAt P.File.TableHandle (arc_value self.old.table) index) }
         ensures turns { Turns self.old self.new result }
@@ -307,6 +315,9 @@ impl<P: Port> TableCursor<P> {
             ≡ found_spot (arc_value self.old.table).items key.now number self.new.page) }
         ensures unread { index_for key.now number (arc_value self.old.table).items ≡ self.old.index
             → 0 < length self.old.page.entries → IsOk result × (self.new.port ≡ self.old.port) }
+        ensures beyond { length (arc_value self.old.table).items
+            ≤ index_for key.now number (arc_value self.old.table).items
+            → IsOk result × (self.new.port ≡ self.old.port) }
         ensures damage { IfDamage result (IsDamageAt P.File.TableHandle (arc_value self.old.table)
             (index_for key.now number (arc_value self.old.table).items)) }
         ensures turns { Turns self.old self.new result }
@@ -392,7 +403,8 @@ impl<P: Port> Cursor for TableCursor<P> {
     ghost kept_size = { λ a b x i. most_steps (length (arc_value (x.table i)).items) };
 
     /// Goes to the first entry at or behind this key and number, or to no place where
-    /// all come before, with one read at most, and with none in the block at which it stands.
+    /// all come before, with one read at most, and with none in the block at which it stands, nor
+    /// where the index says that there is no such entry.
     ///
     /// `Damaged` comes only where no bytes of a block that agrees with the table's index
     /// and row stand at the place that it tells.
@@ -410,6 +422,8 @@ impl<P: Port> Cursor for TableCursor<P> {
         ensures unread { index_for key.now number (table_of self.old).items ≡ index_of self.old
             → 0 < length (page_of self.old).entries
             → IsOk result × (port_of self.new ≡ port_of self.old) }
+        ensures beyond { blocks_in self.old ≤ index_for key.now number (table_of self.old).items
+            → IsOk result × (port_of self.new ≡ port_of self.old) }
         ensures moves { Moves self.old self.new
             (index_for key.now number (table_of self.old).items) result }
     {
@@ -426,6 +440,8 @@ impl<P: Port> Cursor for TableCursor<P> {
         ensures lands { OnOk result (spot_of self.new ≡ first_spot (table_of self.old).items 0) }
         ensures walks { OnOk result (WalksIn self.new []) }
         // what it leaves
+        ensures unread { index_of self.old ≡ 0 → 0 < length (page_of self.old).entries
+            → IsOk result × (port_of self.new ≡ port_of self.old) }
         ensures moves { Moves self.old self.new 0 result }
     {
         let moved = self.show(0);
@@ -442,6 +458,9 @@ impl<P: Port> Cursor for TableCursor<P> {
             (spot_of self.new
             ≡ last_spot (table_of self.old).items (blocks_in self.old - 1) (page_of self.new)) }
         // what it leaves
+        ensures unread { index_of self.old + 1 ≡ blocks_in self.old
+            → 0 < length (page_of self.old).entries
+            → IsOk result × (port_of self.new ≡ port_of self.old) }
         ensures moves { Moves self.old self.new (blocks_in self.old - 1) result }
     {
         let step = self.last_step();

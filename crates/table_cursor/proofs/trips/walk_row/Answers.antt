@@ -1,8 +1,7 @@
 use Rattle.std.proofs.Common.{◌≡◌, ◌≤◌, ◌∙◌, ℕ, List, Some, refl, sym, subst}
 use Rattle.table_file.specs.Form.{table_bytes}
-use Rattle.table_file.specs.Damages.{IsPlaceByRow}
 use Rattle.table_cursor.specs.Trips.{TellsDamage, TellsOf, LimitsTrip}
-use Rattle.table_cursor.proofs.Tripping.{opened_over, damage_opening, short_index, same_bytes, opening_unlimited, opening_told, place_within, damage_within, none_told, gone_or_there}
+use Rattle.table_cursor.proofs.Tripping.{opened_over, damage_opening, short_index, same_bytes, opening_unlimited, opening_told, damage_within, none_told, gone_or_there}
 use Rattle.table_cursor.proofs.trips.walk_row.Goals as goal
 
 pub returns-in-Err-clause-undamaged : goal.returns-in-Err-clause-undamaged
@@ -35,8 +34,8 @@ pub returns-in-Err-clause-within : goal.returns-in-Err-clause-within
 returns-in-Err-clause-within g c =
     let row = c.args.row in
     subst (TellsOf (λ number at. at ≤ row.bytes)) (sym c.from.ensures)
-    (opening_told (IsPlaceByRow row) (λ number at. at ≤ row.bytes) c.in-Err.why
-    (λ number at. place_within row at) c.in-Err.ensures.by_row)
+    (opening_told (λ at. at ≤ row.bytes) (λ number at. at ≤ row.bytes) c.in-Err.why
+    (λ number at within. within) c.in-Err.ensures.by_row)
 
 pub returns-clause-within : goal.returns-clause-within
 returns-clause-within g c =
