@@ -1,5 +1,5 @@
--- A history with guards: flushes, moves, guards committed inside tables, a merge, and a job that was cut
-    short.
+-- A history with guards: flushes, moves, guards committed inside tables, a merge, and a job that was
+-- cut short.
 use Rattle.flsm_model.specs.declared.edit.Edit.TheVariants.{Open, Flush, Move, Cut, Merge}
 use Rattle.flsm_model.specs.declared.job_kind.JobKind.TheVariants.{Flush as FlushJob, Move as MoveJob, Cut as CutJob, Merge as MergeJob}
 use Rattle.flsm_model.specs.declared.short_cause.ShortCause.TheVariants.{Fault}

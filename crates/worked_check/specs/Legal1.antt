@@ -1,5 +1,5 @@
--- A history of two sessions: a stop between them, guards committed inside tables, and a job that was cut
-    short.
+-- A history of two sessions: a stop between them, guards committed inside tables, and a job that was
+-- cut short.
 use Rattle.flsm_model.specs.declared.edit.Edit.TheVariants.{Open, Flush, Move, Cut}
 use Rattle.flsm_model.specs.declared.job_kind.JobKind.TheVariants.{Flush as FlushJob, Move as MoveJob, Cut as CutJob}
 use Rattle.flsm_model.specs.declared.short_cause.ShortCause.TheVariants.{Fault}
