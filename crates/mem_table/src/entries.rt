@@ -95,10 +95,13 @@ impl Entries {
     pub fn is_shared(&mut self) -> bool
         ensures { self.new ≡ self.old }
     {
-        match &mut self.chunks {
-            Some(chunks) => Arc::get_mut(chunks).is_none(),
-            None => false,
+        let Some(chunks) = &mut self.chunks else {
+            return false;
+        };
+        if let Some(_own) = Arc::get_mut(chunks) {
+            return false;
         }
+        true
     }
 
     /// Puts an entry, which is apart from the others, in its place, and
