@@ -268,25 +268,28 @@ fn a_cursor_goes_both_ways_and_stays_nowhere(rt: HostRuntime) -> Result<(), Fail
     Ok(())
 }
 
-/// How many chunks hold 128 entries, and how many one more that is inserted while
-/// a view is held, and the view's entries.
-fn chunks_at_the_limit(alloc: Global) -> Result<(usize, usize, usize), Memory> {
+/// How many chunks hold so many entries that were inserted in their order.
+fn chunks_of(alloc: Global, len: u64) -> Result<usize, Memory>
+    requires { len < 2 ^ 32 }
+{
     let mut table = MemTable::new(alloc);
-    for count in 0..128u64 {
+    for count in 0..len {
         put(&mut table, alloc, count, count)?;
     }
-    let full = table.entries.count();
-    let view = table.snapshot()?;
-    put(&mut table, alloc, 128, 128)?;
-    Ok((full, table.entries.count(), view.len()))
+    Ok(table.entries.count())
 }
 
+// The 129th entry lies behind the 64 of the upper half, which has 128 with the 192nd.
 #[test]
-fn a_chunk_is_cut_at_its_129th_entry(rt: HostRuntime) -> Result<(), Fail> {
-    let (full, cut, held) = chunks_at_the_limit(rt.alloc())?;
-    assert_eq!(rt; full, 1);
-    assert_eq!(rt; cut, 2);
-    assert_eq!(rt; held, 128);
+fn a_chunk_is_cut_in_half_at_its_129th_entry(rt: HostRuntime) -> Result<(), Fail> {
+    let alloc = rt.alloc();
+    let chunks = [
+        chunks_of(alloc, 128)?,
+        chunks_of(alloc, 129)?,
+        chunks_of(alloc, 192)?,
+        chunks_of(alloc, 193)?,
+    ];
+    assert_eq!(rt; chunks, [1, 2, 2, 3]);
     Ok(())
 }
 
