@@ -54,11 +54,14 @@ impl<T: TableLike + Drop> Level<T> {
         }
     }
 
-    /// Lends the guard keys, which ascend strictly.
+    /// Lends the guard keys, which ascend strictly. Each table lies in its guard.
     pub fn keys(&self) -> &[Key]
         ensures keys { result.now ≡ self.now.keys }
         ensures each { length self.now.tables ≡ suc (length self.now.keys) }
         ensures ascend { Ascend [] self.now.keys }
+        ensures inside { (guard : ℕ) → AllByRecursion
+            (λ table. LiesIn self.now.keys guard (T.HasRow.the_row table))
+            (tables_of self.now guard) }
     {
         self.keys.items()
     }

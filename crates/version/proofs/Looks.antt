@@ -1,5 +1,5 @@
 -- Keys between two of one guard are of this guard.
-use Rattle.std.proofs.Common.{◌≡◌, ℕ, zero, suc, ◌≤◌, Bool, true, false, cond, List, [], ◌∷◌, inl, inr, refl, sym, ◌∙◌, subst, arith}
+use Rattle.std.proofs.Common.{◌≡◌, ℕ, zero, suc, ◌-◌, ◌<◌, ◌≤◌, Bool, true, false, cond, List, [], ◌∷◌, inl, inr, refl, sym, ap, ◌∙◌, subst, arith}
 use Rattle.std.specs.List.{AllByRecursion}
 use Rattle.std.proofs.lemmas.Bool.{false≢true}
 use Rattle.peb_base.specs.Guards.{guard_of, LiesIn}
@@ -7,9 +7,9 @@ use Rattle.peb_base.specs.KeyLaws.{le_lt}
 use Rattle.peb_base.specs.Keys.{Bytes, key_lt, key_le}
 use Rattle.peb_base.specs.Members.{IsIn}
 use Rattle.peb_base.specs.declared.table_row.TableRow.{TableRow}
-use Rattle.guard_level.specs.Guards.{IsLevel, tables_of}
-use Rattle.version.specs.Levels.{Levels, level_at, looked_at}
-use Rattle.version.specs.Looks.{Covers, MissesNone, NoneMissed}
+use Rattle.guard_level.specs.Guards.{Guards, tables_of}
+use Rattle.version.specs.Levels.{Levels, level_at}
+use Rattle.version.specs.Looks.{MissesNone}
 
 -- a greater key belongs to no earlier guard
 guards_rise : (a b : Bytes) (ks : List Bytes) → key_le a b ≡ true → guard_of a ks ≤ guard_of b ks
@@ -29,19 +29,21 @@ of_each P x (y ∷ ys) a i = elim i [
   | inr r ↦ of_each P x ys a.1 r
 ]
 
-deeper : {T : Type 0} (row : T → TableRow) (v : Levels T) (key : Bytes) (n guard : ℕ) (t : T) → IsLevel row (level_at v n) → IsIn t (tables_of (level_at v n) guard) → Covers (row t) key
-    → IsIn t (looked_at v (suc n) key)
-deeper row v key n guard t level i c =
-    let lies : LiesIn (level_at v n).keys guard (row t) = of_each (λ x. LiesIn (level_at v n).keys guard (row x)) t (tables_of (level_at v n) guard) (level.inside guard) i in
-    let same : guard ≡ guard_of key (level_at v n).keys =
+-- a table that has the key between its ends lies in the key's guard
+pub found_all : {T : Type 0} (row : T → TableRow) (v : Levels T) (level : ℕ) (key : Bytes) (g : Guards T) (found : List T) → 0 < level → g ≡ level_at v (level - 1) → found ≡ tables_of g (guard_of key g.keys)
+    → ((guard : ℕ) → AllByRecursion (λ t. LiesIn g.keys guard (row t)) (tables_of g guard)) → MissesNone row v level key found
+found_all row v zero key g found deep at is inside = absurd (omega (arith, deep))
+found_all {T} row v (suc n) key g found deep at is inside = λ guard t i c.
+    let below : suc n - 1 ≡ n = omega arith in
+    let here : g ≡ level_at v n = at ∙ ap (level_at v) below in
+    let there : IsIn t (tables_of g guard) = subst (λ (h : Guards T). IsIn t (tables_of h guard)) (sym here) i in
+    let lies : LiesIn g.keys guard (row t) = of_each (λ x. LiesIn g.keys guard (row x)) t (tables_of g guard) (inside guard) there in
+    let same : guard ≡ guard_of key g.keys =
     omega (
       arith,
       lies.smallest,
       lies.largest,
-      guards_rise (row t).smallest key (level_at v n).keys c.0,
-      guards_rise key (row t).largest (level_at v n).keys c.1,
+      guards_rise (row t).smallest key g.keys c.0,
+      guards_rise key (row t).largest g.keys c.1,
     ) in
-    subst (λ g. IsIn t (tables_of (level_at v n) g)) same i
-
-pub none_missed : {T : Type 0} (row : T → TableRow) → NoneMissed row
-none_missed row v key = record { top = λ t i. i; deeper = deeper row v key }
+    subst (IsIn t) (sym is) (subst (λ h. IsIn t (tables_of g h)) same there)

@@ -5,12 +5,10 @@
 //! level. A version never changes. The layer above may not know which levels two versions share.
 #![tactic(auto)]
 
-mod laws;
 #[cfg(test)]
 mod tests;
 mod version;
 mod view;
 
-pub use laws::law_looks;
 pub use version::Version;
 pub use view::View;

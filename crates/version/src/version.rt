@@ -3,6 +3,7 @@
 ghost use Rattle.std.specs.Prelude.{◌≡◌, ◌≤◌, ◌<◌, ◌-◌, length, map, set, vec_len, IfOk};
 ghost use Rattle.std.specs.Arc.{arc_value};
 ghost use Rattle.version.specs.Levels.{level_at, looked_at};
+ghost use Rattle.version.specs.Looks.{MissesNone};
 
 use guard_level::Level;
 use peb_base::{List, Memory, TableLike};
@@ -76,15 +77,17 @@ impl<T: TableLike + Drop> Version<T> {
     }
 
     /// Lends the tables of a level in which a key may lie: all of level 0, else those of the key's
-    /// guard. The level is at most the last.
+    /// guard. The level is at most the last. None whose keys reach over the key is left out.
     pub fn looks(&self, level: u8, key: &[u8]) -> &[T]
         requires { level ≤ length self.now.levels }
-        ensures { result.now ≡ looked_at self.now level key.now }
+        ensures tables { result.now ≡ looked_at self.now level key.now }
+        ensures none_missed { MissesNone T.HasRow.the_row self.now level key.now result.now }
     {
         if level == 0 {
             return self.top();
         }
         let level = self.level(level);
+        let _keys = level.keys();
         level.tables_of(level.guard_of(key))
     }
 
