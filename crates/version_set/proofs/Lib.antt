@@ -1,6 +1,7 @@
 pub mod Agreeing
 pub mod Cuts
 pub mod Edits
+pub mod Examples
 pub mod Fitting
 pub mod HeldLemmas
 pub mod Holding

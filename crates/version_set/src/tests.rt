@@ -1,17 +1,19 @@
 //! Version sets beside the plain program of a record's shape, and held numbers.
 
-ghost use Rattle.std.specs.Prelude.{◌≡◌, ◌<◌, map, IfOk, OnOk};
+ghost use Rattle.std.specs.Prelude.{◌≡◌, ◌<◌, [], map, IfOk, IsTrue, OnOk};
 ghost use Rattle.std.specs.Arc.{arc_value};
+ghost use Rattle.std.specs.List.{AllByRecursion};
+ghost use Rattle.peb_base.specs.Guards.{Ascend, guard_of};
 ghost use Rattle.peb_base.specs.Profiles.{column};
 ghost use Rattle.flsm_model.specs.Fields.{fields_of};
 ghost use Rattle.flsm_model.specs.Fits.{IsShapeOf};
 ghost use Rattle.flsm_model.specs.Shape.{Record, outputs_of};
-ghost use Rattle.version_set.specs.Shapes.{IsVersionOf};
+ghost use Rattle.version_set.specs.Shapes.{HasPlace, IsVersionOf};
 ghost use Rattle.version_set.specs.declared.tests.Bare.{Bare};
 
 use crate::VersionSet;
 use flsm_model::{Chosen, Edit, Shape, law_shape};
-use peb_base::{HasRow, Key, List, Number, Options, Profile, TableRow};
+use peb_base::{HasRow, Key, List, Number, Options, Profile, TableRow, is_below};
 use std::alloc::Global;
 use std::process::Abort;
 use std::slice;
@@ -326,6 +328,214 @@ fn guards_and_tables_after_each_kind_of_edit(rt: HostRuntime) -> Result<(), Fail
         ),
         (1, 5, 1000)
     );
+    Ok(())
+}
+
+#[test]
+fn a_cut_puts_pieces_in_place_of_the_table_that_its_key_splits(
+    rt: HostRuntime,
+) -> Result<(), Fail> {
+    let alloc = rt.alloc();
+    let options = Options::of(Profile::Small);
+    let mut shape = Shape::new(alloc, &options)?;
+    let mut set = VersionSet::new(alloc, &options)?;
+    let open = Edit::Open { session: 1, log: 1 };
+    make(&rt, alloc, &mut shape, &mut set, &open)?;
+    make(&rt, alloc, &mut shape, &mut set, &flush(alloc, b"a", b"z")?)?;
+    let whole = move_of(alloc, 0, 0, vec![in alloc; row(alloc, 1, 1, b"a", b"z")?]?)?;
+    make(&rt, alloc, &mut shape, &mut set, &whole)?;
+    make(&rt, alloc, &mut shape, &mut set, &cut_of(alloc, 3, b"o")?)?;
+    make(&rt, alloc, &mut shape, &mut set, &cut_of(alloc, 2, b"o")?)?;
+    let cut = Edit::Cut {
+        level: 1,
+        keys: keys(alloc, b"o")?,
+        inputs: List::of(vec![in alloc; FIRST + 1]?),
+        outputs: List::of(vec![in alloc;
+            row(alloc, 2, 1, b"a", b"n")?,
+            row(alloc, 3, 1, b"o", b"z")?,
+        ]?),
+    };
+    let gone = make(&rt, alloc, &mut shape, &mut set, &cut)?;
+    assert_eq!(rt; gone.len(), 1);
+    assert_eq!(rt; gone[0].row().number, FIRST + 1);
+    assert_eq!(rt;
+        (
+            only(&rt, set.version(), 1, b"k"),
+            only(&rt, set.version(), 1, b"p")
+        ),
+        (2, 3)
+    );
+    Ok(())
+}
+
+/// Stages an edit, having seen that it fits, and takes its tables back; then stages it with others and
+/// swaps it in: how many tables came back, those of level 0 in between, and how many went.
+fn stage_twice(
+    rt: &impl Abort,
+    alloc: Global,
+    shape: &mut Shape,
+    set: &mut VersionSet<Handle>,
+    edit: &Edit,
+) -> Result<(usize, usize, usize), Fail>
+    requires legal { (r : Record) × IsShapeOf (column shape.old.options.profile)
+        (fields_of shape.old) r }
+    requires stands { IsVersionOf (λ t. (arc_value {X = Bare} t).row) set.old.current (fields_of shape.old) }
+{
+    // The shape of a legal record is sound.
+    law_shape();
+    let added = tables(alloc, outputs(edit))?;
+    let others = tables(alloc, outputs(edit))?;
+    let fits = shape.add(edit)?;
+    assert!(rt; fits);
+    let staged = match set.stage(edit, added) {
+        Ok(staged) => staged,
+        Err(_) => Err("no memory")?,
+    };
+    let given = staged.back().len();
+    let between = set.version().top().len();
+    let staged = match set.stage(edit, others) {
+        Ok(staged) => staged,
+        Err(_) => Err("no memory")?,
+    };
+    let gone = set.swap(staged);
+    Ok((given, between, gone.len()))
+}
+
+#[test]
+fn a_staged_move_changes_nothing_until_it_is_swapped_in(rt: HostRuntime) -> Result<(), Fail> {
+    let alloc = rt.alloc();
+    let options = Options::of(Profile::Small);
+    let mut shape = Shape::new(alloc, &options)?;
+    let mut set = VersionSet::new(alloc, &options)?;
+    let open = Edit::Open { session: 1, log: 1 };
+    make(&rt, alloc, &mut shape, &mut set, &open)?;
+    make(&rt, alloc, &mut shape, &mut set, &flush(alloc, b"a", b"z")?)?;
+    let whole = move_of(alloc, 0, 0, vec![in alloc; row(alloc, 1, 1, b"a", b"z")?]?)?;
+    let counts = stage_twice(&rt, alloc, &mut shape, &mut set, &whole)?;
+    assert_eq!(rt; counts, (1, 1, 1));
+    assert_eq!(rt;
+        (
+            only(&rt, set.version(), 0, b"k"),
+            only(&rt, set.version(), 1, b"k")
+        ),
+        (1000, 1)
+    );
+    Ok(())
+}
+
+/// Whether the keys ascend strictly, all above the first one.
+fn ascends(low: &[u8], keys: &[Key]) -> bool
+    ensures { IsTrue result → Ascend low.now keys.now }
+{
+    match keys {
+        [] => true,
+        [key, rest @ ..] => is_below(low, key.bytes()) && ascends(key.bytes(), rest),
+    }
+}
+
+/// Whether the guard keys of each level ascend strictly.
+fn all_ascend(guards: &[List<Key>]) -> bool
+    ensures { IsTrue result → AllByRecursion (Ascend []) guards.now }
+{
+    match guards {
+        [] => true,
+        [keys, rest @ ..] => ascends(&[], keys.items()) && all_ascend(rest),
+    }
+}
+
+/// Whether the row's ends belong to one of the guards.
+fn ends_meet(keys: &[Key], row: &TableRow) -> bool
+    ensures { IsTrue result
+        → guard_of row.now.smallest keys.now ≡ guard_of row.now.largest keys.now }
+{
+    match keys {
+        [] => true,
+        [key, rest @ ..] => {
+            let begins = is_below(row.smallest.bytes(), key.bytes());
+            let ends = is_below(row.largest.bytes(), key.bytes());
+            begins == ends && (begins || ends_meet(rest, row))
+        }
+    }
+}
+
+/// Whether a table with the row has its place.
+fn has_place(guards: &[List<Key>], row: &TableRow) -> bool
+    ensures { IsTrue result → HasPlace guards.now row.now }
+{
+    let level = row.level as usize;
+    if level == 0 {
+        return true;
+    }
+    if level > guards.len() || is_below(row.largest.bytes(), row.smallest.bytes()) {
+        return false;
+    }
+    ends_meet(guards[level - 1].items(), row)
+}
+
+/// Whether each table has its place.
+fn have_places(guards: &[List<Key>], tables: &[Handle]) -> bool
+    ensures { IsTrue result
+        → AllByRecursion (λ t. HasPlace guards.now (arc_value {X = Bare} t).row) tables.now }
+{
+    match tables {
+        [] => true,
+        [table, rest @ ..] => has_place(guards, table.row()) && have_places(guards, rest),
+    }
+}
+
+/// The set of the guards `o`, `g` and `o`, and `c`, `g` and `o`, two tables of level 0, one on each side of
+/// the guard of level 1, and one of the guard `c` of level 3.
+fn set_of_parts(rt: &impl Abort, alloc: Global) -> Result<VersionSet<Handle>, Fail> {
+    let guards = vec![in alloc;
+        keys(alloc, b"o")?,
+        keys(alloc, b"go")?,
+        keys(alloc, b"cgo")?,
+    ]?;
+    let rows = vec![in alloc;
+        row(alloc, 1, 1, b"o", b"z")?,
+        row(alloc, 2, 0, b"b", b"y")?,
+        row(alloc, 3, 3, b"c", b"f")?,
+        row(alloc, 4, 1, b"a", b"n")?,
+        row(alloc, 5, 0, b"a", b"z")?,
+    ]?;
+    let tables = tables(alloc, &rows)?;
+    assert!(rt; guards.len() < 256);
+    assert!(rt; all_ascend(&guards));
+    assert!(rt; have_places(&guards, &tables));
+    Ok(VersionSet::of_parts(alloc, &guards, &tables)?)
+}
+
+#[test]
+fn a_set_of_parts_has_its_tables_in_their_places(rt: HostRuntime) -> Result<(), Fail> {
+    let set = set_of_parts(&rt, rt.alloc())?;
+    let version = set.version();
+    assert_eq!(rt; version.last_level(), 3);
+    assert_eq!(rt;
+        (
+            guards(&rt, version, 1),
+            guards(&rt, version, 2),
+            guards(&rt, version, 3)
+        ),
+        (1, 2, 3)
+    );
+    assert_eq!(rt; version.top().len(), 2);
+    assert_eq!(rt;
+        (version.top()[0].row().number, version.top()[1].row().number),
+        (FIRST + 2, FIRST + 5)
+    );
+    assert_eq!(rt;
+        (only(&rt, version, 1, b"n"), only(&rt, version, 1, b"o")),
+        (4, 1)
+    );
+    assert_eq!(rt;
+        (
+            only(&rt, version, 2, b"k"),
+            only(&rt, version, 3, b"b"),
+            only(&rt, version, 3, b"d")
+        ),
+        (1000, 1000, 3)
+    );
+    assert!(rt; set.held().is_none());
     Ok(())
 }
 
