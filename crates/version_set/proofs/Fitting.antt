@@ -96,7 +96,7 @@ same_guard lo (k ∷ ks) a b le below = by (key_lt a k) refl (same_guard k ks a 
         ap (λ c. if c then 0 else suc (guard_of b ks)) past ∙ ap suc (rest inside) ∙ sym (ap (λ c. if c then 0 else suc (guard_of a ks)) is)
 
 -- a row that lies in the range of the guard in which it begins lies in the guard
-lies_in_one : (gs : List Bytes) (r : TableRow) → key_le r.smallest r.largest ≡ true → lies_in (range_of gs r.smallest) r ≡ true → LiesInOne gs r
+pub lies_in_one : (gs : List Bytes) (r : TableRow) → key_le r.smallest r.largest ≡ true → lies_in (range_of gs r.smallest) r ≡ true → LiesInOne gs r
 lies_in_one gs r ordered lies = record {
   smallest = refl;
   largest = same_guard [] gs r.smallest r.largest ordered (and_parts (key_le (range_of gs r.smallest).0 r.smallest) (is_below r.largest (range_of gs r.smallest).1) lies).1;

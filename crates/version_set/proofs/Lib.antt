@@ -6,6 +6,7 @@ pub mod Fitting
 pub mod HeldLemmas
 pub mod Holding
 pub mod Parts
+pub mod Placed
 pub mod Rows
 pub mod Stands
 pub mod Taken

@@ -16,6 +16,6 @@ mod staging;
 mod tests;
 mod version_set;
 
-pub use laws::law_contents;
+pub use laws::{law_contents, law_parts};
 pub use staged::Staged;
 pub use version_set::VersionSet;
