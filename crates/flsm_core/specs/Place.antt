@@ -9,7 +9,9 @@ use Rattle.disk_model.specs.Told.{JournalTold}
 use Rattle.peb_base.specs.declared.limit_kind.LimitKind.TheVariants as kinds
 use Rattle.peb_base.specs.Batches.{Batches, last_number}
 use Rattle.record_log.specs.Groups.{records_bytes}
+use Rattle.flsm_model.specs.Shape.{Record}
 use Rattle.store_layout.specs.Logs.{record_of}
+use Rattle.store_layout.specs.Recorded.{next_opening}
 use Rattle.flsm_core.specs.declared.commit_fault.CommitFault.{CommitFault}
 use Rattle.flsm_core.specs.declared.commit_fault.CommitFault.TheVariants as commits
 use Rattle.flsm_core.specs.declared.sync_fault.SyncFault.{SyncFault}
@@ -23,26 +25,31 @@ pub record Start : Type 0 where
   pub faults : ℕ
   -- the profile that is asked for
   pub profile : Profile
-  -- each image of that moment stands for the base
+  -- each image of that moment stands for the base and the record
   pub honest : Bool
   -- the batches that are opened
   pub base : Batches
+  -- the record that is opened
+  pub edits : Record
 
--- an opening in this profile and on this base begins with the journal as it is
-abbrev pub start_at : JournalTold → Profile → Bool → Batches → Start
-start_at told profile honest base =
+-- an opening in this profile, on this base and this record, begins with the journal as it is
+abbrev pub start_at : JournalTold → Profile → Bool → Batches → Record → Start
+start_at told profile honest base edits =
     record {
       moment = told.moment;
       faults = told.faults;
       profile = profile;
       honest = honest;
       base = base;
+      edits = edits;
     }
 
 -- a store since its opening
 pub record Place : Type 0 where
   -- what the opening began with
   pub start : Start
+  -- the record that every crash leaves, where the opening was honest
+  pub edits : Record
   -- the batches that every crash leaves, where the opening was honest
   pub settled : Batches
   -- the batches after them, which a crash may lose
@@ -54,9 +61,24 @@ pub record Place : Type 0 where
 abbrev pub all_of : Place → Batches
 all_of p = p.settled ++ p.waiting
 
--- the place right after an opening
-abbrev pub opened : Start → Place
-opened start = record { start = start; settled = start.base; waiting = []; stopped = false }
+-- the place right after an opening whose first log is this one: it is recorded
+abbrev pub opened : Start → ℕ → Place
+opened start log =
+    record {
+      start = start;
+      edits = start.edits ++ next_opening start.profile start.edits log ∷ [];
+      settled = start.base;
+      waiting = [];
+      stopped = false;
+    }
+
+-- it is the record of a store at this place
+abbrev pub IsRecordOf : Place → Record → Type 0
+IsRecordOf p edits = edits ≡ p.edits
+
+-- it is that, or the one that was opened
+abbrev pub WasRecordOf : Place → Record → Type 0
+WasRecordOf p edits = (edits ≡ p.start.edits) ⊎ (edits ≡ p.edits)
 
 -- the number that the next operation gets: the next one of its session
 abbrev pub next_number : ℕ → Batches → ℕ

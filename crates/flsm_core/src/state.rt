@@ -91,10 +91,10 @@ impl<J: Journal> State<J> {
     ghost use Rattle.flsm_core.specs.State.{state_session, state_journal, state_file};
 
     /// A store of what an opening has made ready. It stands where the opening began, for each base
-    /// that the parts have.
+    /// and record that the parts have.
     pub fn new(parts: Parts<J>) -> State<J>
-        ensures stands { (start : Start) → IsBegun J.Journal parts start
-            → IsAt J.Journal result (opened start) }
+        ensures stands { (start : Start) (log : ℕ) → IsBegun J.Journal parts start log
+            → IsAt J.Journal result (opened start log) }
         ensures session { state_session result ≡ parts.session }
         ensures journal { state_journal result ≡ parts.journal }
         ensures file { state_file result ≡ log_file parts.log }

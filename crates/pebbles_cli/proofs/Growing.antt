@@ -15,7 +15,8 @@ use Rattle.script.specs.declared.command.Command.TheVariants as commands
 use Rattle.script.specs.declared.cause.Cause.{Cause}
 use Rattle.flsm_core.specs.declared.sync_fault.SyncFault.{SyncFault}
 use Rattle.flsm_core.specs.declared.sync_fault.SyncFault.TheVariants as syncs
-use Rattle.flsm_core.specs.Place.{Place, all_of, put_op, next_number, with_batch, all_settled, halted, after_sync}
+use Rattle.flsm_model.specs.Shape.{Record}
+use Rattle.flsm_core.specs.Place.{Start, Place, all_of, put_op, next_number, with_batch, all_settled, halted, after_sync}
 use Rattle.store_layout.specs.Fronts.{IsFront}
 use Rattle.pebbles_cli.specs.declared.write_fault.WriteFault.{WriteFault}
 use Rattle.pebbles_cli.specs.declared.write_fault.WriteFault.TheVariants as writes
@@ -227,7 +228,11 @@ run_goes_on session old (c ∷ cs) text cause failed new t running none =
 
 -- ---- what a run never changes
 
-write_start : (session : ℕ) (p : Place) (ops : List Op) (sync : Bool) (answer : Result ℕ WriteFault) → (after_write session p ops sync answer).start ≡ p.start
+-- what the opening began with, and the record since
+abbrev pub opening_of : Place → Start × Record
+opening_of p = (p.start, p.edits)
+
+write_start : (session : ℕ) (p : Place) (ops : List Op) (sync : Bool) (answer : Result ℕ WriteFault) → opening_of (after_write session p ops sync answer) ≡ opening_of p
 write_start session p ops true (Ok n) = refl
 write_start session p ops false (Ok n) = refl
 write_start session p ops sync (Err (writes.Unsynced n)) = refl
@@ -235,21 +240,21 @@ write_start session p ops sync (Err writes.Stopped) = refl
 write_start session p ops sync (Err (writes.Limit kind n)) = refl
 write_start session p ops sync (Err writes.Memory) = refl
 
-one_start : (session : ℕ) (old : Place) (command : Command) (text : List ℕ) (cause : Option Cause) (new : Place) → TellsOne session old command text cause new → new.start ≡ old.start
-one_start session old (commands.Put key value sync) text cause new t = ap (λ (p : Place). p.start) t.leads ∙ write_start session old (put_op key value ∷ []) sync t.answer
-one_start session old (commands.Get key) text cause new t = ap (λ (p : Place). p.start) t.leads
+one_start : (session : ℕ) (old : Place) (command : Command) (text : List ℕ) (cause : Option Cause) (new : Place) → TellsOne session old command text cause new → opening_of new ≡ opening_of old
+one_start session old (commands.Put key value sync) text cause new t = ap opening_of t.leads ∙ write_start session old (put_op key value ∷ []) sync t.answer
+one_start session old (commands.Get key) text cause new t = ap opening_of t.leads
 
-pub run_start : (session : ℕ) (old : Place) (cs : List Command) (text : List ℕ) (cause : Option Cause) (failed : Bool) (new : Place) → Tells (TellsOne session) old cs text cause failed new → new.start ≡ old.start
+pub run_start : (session : ℕ) (old : Place) (cs : List Command) (text : List ℕ) (cause : Option Cause) (failed : Bool) (new : Place) → Tells (TellsOne session) old cs text cause failed new → opening_of new ≡ opening_of old
 unfolding Tells
-run_start session old [] text cause failed new t = ap (λ (p : Place). p.start) t.3
+run_start session old [] text cause failed new t = ap opening_of t.3
 run_start session old (c ∷ cs) text cause failed new t =
     let one = one_start session old c t.0 t.1 t.2 t.3.0 in
     elim t.3.1 [
       | inl more ↦ run_start session t.2 cs more.0 more.1 failed new more.2.2 ∙ one
-      | inr cut ↦ ap (λ (p : Place). p.start) cut.1.3 ∙ one
+      | inr cut ↦ ap opening_of cut.1.3 ∙ one
     ]
 
-pub sync_start : (p : Place) (closing : Result ℕ SyncFault) → (after_sync p closing).start ≡ p.start
+pub sync_start : (p : Place) (closing : Result ℕ SyncFault) → opening_of (after_sync p closing) ≡ opening_of p
 sync_start p (Ok n) = refl
 sync_start p (Err syncs.Stopped) = refl
 sync_start p (Err syncs.Journal) = refl

@@ -1,5 +1,5 @@
 -- What an opening hands on of what the devices told.
-use Rattle.std.proofs.Common.{◌≡◌, ◌≢◌, ℕ, suc, ◌≤◌, Bool, true, false, List, inl, inr, refl, sym, ap, ◌∙◌, subst, arith}
+use Rattle.std.proofs.Common.{◌≡◌, ◌≢◌, ℕ, ◌≤◌, Bool, true, false, List, inl, inr, refl, sym, ap, ◌∙◌, subst, arith}
 use Rattle.peb_base.specs.Batches.{Batches}
 use Rattle.peb_base.specs.declared.profile.Profile.{Profile}
 use Rattle.peb_base.specs.Faults.{Rose}
@@ -9,18 +9,24 @@ use Rattle.disk_model.specs.Told.{JournalTold, TablesTold, TellsTheSame, TablesS
 use Rattle.recovery.specs.declared.open_fault.OpenFault.{OpenFault}
 use Rattle.recovery.specs.declared.open_fault.OpenFault.TheVariants as opens
 use Rattle.flsm_core.specs.Place.{Place, Start, opened, start_at}
+use Rattle.peb_base.specs.declared.profile.Profile.TheVariants.{Small}
+use Rattle.disk_model.specs.declared.journal_file.JournalFile.{JournalFile}
+use Rattle.disk_model.specs.declared.journal_file.JournalFile.TheVariants.{ManifestA}
+use Rattle.flsm_model.specs.Shape.{Record}
 use Rattle.recovery.specs.Range.{Range, AreIn, StartsIn}
-use Rattle.store_layout.specs.Logs.{Held, HoldsLogs, ReadsAs, greatest_session}
+use Rattle.store_layout.specs.Recorded.{ReadsBy}
 use Rattle.flsm_core.specs.Standing.{IsLeftBy}
-use Rattle.recovery.specs.Opening.{OpensOn, OpenCause, HasWatched}
+use Rattle.recovery.specs.Opened.{OpensBy, LeavesOpening}
+use Rattle.recovery.specs.Opening.{HasWatched}
+use Rattle.recovery.specs.Reading.{StoreCause}
 use Rattle.recovery.specs.NextLog.{next_log_on}
-use Rattle.flsm_core.specs.Touched.{touched_same}
+use Rattle.flsm_core.specs.Touched.{HasTouched, touched_self, touched_on, touched_same}
 use Rattle.script.specs.declared.cause.Cause.{Cause}
 use Rattle.script.specs.declared.cause.Cause.TheVariants as causes
 use Rattle.pebbles_cli.specs.Causes.{RefusalCause, opening_cause}
 use Rattle.pebbles_cli.specs.Names.{replies_label}
 use Rattle.pebbles_cli.specs.Outside.{Outside}
-use Rattle.pebbles_cli.specs.Top.{Asked, IsNext, NotOpened, TouchesAtMost}
+use Rattle.pebbles_cli.specs.Top.{Asked, NotOpened, TouchesAtMost}
 
 pub same_then : {a b c : JournalTold} → TellsTheSame a b → TellsTheSame b c → TellsTheSame a c
 same_then x y = record {
@@ -55,13 +61,13 @@ tells_itself a = record {
 }
 
 -- what opens on what is told opens on the same told otherwise
-pub opens_same : (a b : JournalTold) (honest : Bool) (profile : Profile) (base : Batches) → TellsTheSame a b → OpensOn profile honest base a.seen a.may_leave → OpensOn profile honest base b.seen b.may_leave
-opens_same a b true profile base same on = λ image left. on image ((same.images image).0 left)
-opens_same a b false profile base same on = subst (ReadsAs profile base) (sym same.bytes) on
+pub opens_same : (a b : JournalTold) (honest : Bool) (profile : Profile) (base : Batches) (edits : Record) → TellsTheSame a b → OpensBy profile edits honest base a → OpensBy profile edits honest base b
+opens_same a b true profile base edits same on = λ image left. on image ((same.images image).0 left)
+opens_same a b false profile base edits same on = (on.0, subst (λ (i : Image). ReadsBy profile edits i on.0 base) (sym same.bytes) on.1)
 
 -- where an opening began is told the same
-pub starts_same : (a b : JournalTold) (profile : Profile) (honest : Bool) (base : Batches) → TellsTheSame a b → start_at b profile honest base ≡ start_at a profile honest base
-starts_same a b profile honest base same = λ i. record { moment = same.time i; faults = same.count i; profile = profile; honest = honest; base = base }
+pub starts_same : (a b : JournalTold) (profile : Profile) (honest : Bool) (base : Batches) (edits : Record) → TellsTheSame a b → start_at b profile honest base edits ≡ start_at a profile honest base edits
+starts_same a b profile honest base edits same = λ i. record { moment = same.time i; faults = same.count i; profile = profile; honest = honest; base = base; edits = edits }
 
 -- an opening in a range begins where the same is told otherwise
 pub starts_in_same : (range : Range) (a b : JournalTold) (start : Start) → TellsTheSame a b → StartsIn range b start → StartsIn range a start
@@ -70,7 +76,9 @@ starts_in_same range a b start same starts = record {
   sure = starts.sure;
   enough = starts.enough;
   within = starts.within;
-  reads = subst (ReadsAs range.profile start.base) same.bytes starts.reads;
+  recorded = starts.recorded;
+  logs = starts.logs;
+  reads = subst (λ (i : Image). ReadsBy range.profile start.edits i starts.logs start.base) same.bytes starts.reads;
   began = omega (arith, same.time, starts.began);
   counted = omega (arith, same.count, starts.counted);
 }
@@ -124,7 +132,21 @@ watched_between a b c d first watched last = record {
 -- what a refused opening touched is told the same before and after
 pub touches_between : (tells : Bool) (a b c d : JournalTold) → TellsTheSame a b → TouchesAtMost tells b c → TellsTheSame c d → TouchesAtMost tells a d
 touches_between tells a b c d first (inl watched) last = inl (watched_between a b c d first watched last)
-touches_between tells a b c d first (inr (file, next)) last = inr (file, next_log_on tells file a b c d first next (touched_same tells file c d last))
+touches_between tells a b c d first (inr (file, next)) last = inr (file, next_log_on tells Small file a b c d first next (touched_same tells file c d last))
+
+-- what changed one file is told the same before and after
+pub touched_between : (tells : Bool) (file : JournalFile) (a b c d : JournalTold) → TellsTheSame a b → HasTouched tells file b c → TellsTheSame c d → HasTouched tells file a d
+touched_between tells file a b c d first touched last =
+    touched_on tells file a b d (touched_same tells file a b first) (touched_on tells file b c d touched (touched_same tells file c d last))
+
+-- what a refused opening left stands where the same is told
+pub leaves_between : (a b c d : JournalTold) (base : Batches) (edits : Record) → TellsTheSame a b → TellsTheSame c d → LeavesOpening Small base edits (c.left_since b.moment) → LeavesOpening Small base edits (d.left_since a.moment)
+leaves_between a b c d base edits first last left =
+    (left.0, λ image since. left.1 image (subst (λ (t : ℕ). c.left_since t image) (sym first.time) ((last.past a.moment image).0 since)))
+
+-- nothing was done, so each image stands as before
+pub leaves_same : (a b : JournalTold) (base : Batches) (edits : Record) → ((image : Image) → a.left_since a.moment image → a.may_leave image) → TellsTheSame a b → OpensBy Small edits true base a → LeavesOpening Small base edits (b.left_since a.moment)
+leaves_same a b base edits only same on = (0, λ image left. inl (on image (only image ((same.past a.moment image).0 left))))
 
 -- what was left is told the same
 pub left_same : (p : Place) (a b : JournalTold) → TellsTheSame a b → IsLeftBy p a → IsLeftBy p b
@@ -139,26 +161,20 @@ rose_same a b c d ab dc rose = omega (arith, ab, dc, rose)
 -- ---- causes
 
 -- the same fault, where the journal's count rose for another reason
-pub open_weaker : (fault : OpenFault) (P Q : Type 0) (tells : Bool) (seen seen' : Image) (profile : Profile) → seen' ≡ seen → (P → Q) → OpenCause P tells seen profile fault → OpenCause Q tells seen' profile fault
-open_weaker opens.Journal P Q tells seen seen' profile same up cause = up cause
-open_weaker (opens.Damaged file at) P Q tells seen seen' profile same up cause = subst (λ (i : Image). OpenCause Q tells i profile (opens.Damaged file at)) (sym same) cause
-open_weaker (opens.Profile have asked) P Q tells seen seen' profile same up cause = subst (λ (i : Image). OpenCause Q tells i profile (opens.Profile have asked)) (sym same) cause
-open_weaker (opens.Limit kind n) P Q tells seen seen' profile same up cause = subst (λ (i : Image). OpenCause Q tells i profile (opens.Limit kind n)) (sym same) cause
-open_weaker opens.Memory P Q tells seen seen' profile same up cause = tt
+pub store_weaker : (fault : OpenFault) (P Q : Type 0) (tells : Bool) (seen seen' : Image) (profile : Profile) → seen' ≡ seen → (P → Q) → StoreCause P tells seen profile fault → StoreCause Q tells seen' profile fault
+store_weaker opens.Journal P Q tells seen seen' profile same up cause = up cause
+store_weaker (opens.Damaged file at) P Q tells seen seen' profile same up cause = subst (λ (i : Image). StoreCause Q tells i profile (opens.Damaged file at)) (sym same) cause
+store_weaker (opens.Profile have asked) P Q tells seen seen' profile same up cause = subst (λ (i : Image). StoreCause Q tells i profile (opens.Profile have asked)) (sym same) cause
+store_weaker (opens.Limit kind n) P Q tells seen seen' profile same up cause = subst (λ (i : Image). StoreCause Q tells i profile (opens.Limit kind n)) (sym same) cause
+store_weaker opens.Memory P Q tells seen seen' profile same up cause = tt
 
-pub opening_journal : (fault : OpenFault) → opening_cause fault ≢ causes.Journal → fault ≢ opens.Journal
-opening_journal fault other is = other (ap opening_cause is)
-
--- ---- what is opened
-
--- what an opening rests on is read
-pub opens_read : (honest : Bool) (profile : Profile) (base : Batches) (told : JournalTold) → told.may_leave told.seen → OpensOn profile honest base told.seen told.may_leave → ReadsAs profile base told.seen
-opens_read true profile base told left on = let stands = on told.seen left in (stands.logs, stands.reads)
-opens_read false profile base told left on = on
-
--- the next session, by what the opening told of it
-pub next_of : (seen seen' : Image) (session : ℕ) → seen' ≡ seen → ((logs : List Held) × HoldsLogs 1 logs seen' × (session ≡ suc (greatest_session logs))) → IsNext seen session
-next_of seen seen' session same found = record { logs = found.0; holds = subst (HoldsLogs 1 found.0) same found.1; after = found.2 }
+-- no other fault is told as want of memory
+pub memory_only : (fault : OpenFault) → opening_cause fault ≡ causes.Memory → fault ≡ opens.Memory
+memory_only opens.Memory is = refl
+memory_only opens.Journal is = absurd (cc)
+memory_only (opens.Damaged file at) is = absurd (cc)
+memory_only (opens.Profile have asked) is = absurd (cc)
+memory_only (opens.Limit kind n) is = absurd (cc)
 
 -- nothing was opened, and nothing was done
 pub nothing_opened : (asked : Asked) (old : Outside) (cause : Cause)
@@ -170,9 +186,10 @@ nothing_opened asked old cause counts only why = record {
   directory = inl refl;
   sinks = refl;
   touched = inl (watched_same old.devices.journal old.devices.journal counts only (tells_itself old.devices.journal));
-  untouched = λ other. watched_same old.devices.journal old.devices.journal counts only (tells_itself old.devices.journal);
-  ever = λ told base on image left. on image (only image left);
-  now = λ told base on image left. on image left;
+  untouched = λ other short. watched_same old.devices.journal old.devices.journal counts only (tells_itself old.devices.journal);
+  memory = λ short. touched_self old.devices.tells ManifestA old.devices.journal;
+  ever = λ told base edits on. (0, λ image left. inl (on image (only image left)));
+  now = λ told base edits on. (0, λ image left. inl (on image left));
   tables = tables_stay old.devices.tables;
 }
 

@@ -1,5 +1,5 @@
 -- A run from its opening to its report.
-use Rattle.std.proofs.Common.{◌≡◌, ℕ, ◌*◌, ◌^◌, ◌<◌, ◌≤◌, Bool, true, false, IsTrue, List, [], ◌++◌, take, Option, Some, None, Result, Ok, Err, refl, sym, ap, ◌∙◌, subst, inl, inr, arith}
+use Rattle.std.proofs.Common.{◌≡◌, ℕ, ◌+◌, ◌*◌, ◌^◌, ◌<◌, ◌≤◌, Bool, true, false, IsTrue, List, [], ◌++◌, take, Option, Some, None, Result, Ok, Err, refl, sym, ap, ◌∙◌, subst, inl, inr, arith}
 use Rattle.std.specs.Result.{is_err}
 use Rattle.std.specs.Option.{option_or, unwrap_or}
 use Rattle.std.proofs.lemmas.Bool.{true≢false}
@@ -15,12 +15,16 @@ use Rattle.script.specs.Report.{report_text}
 use Rattle.recovery.specs.Range.{Range, AreIn, StartsIn}
 use Rattle.flsm_core.specs.Standing.{Leaves, IsLeftBy}
 use Rattle.flsm_core.specs.Touched.{HasTouched, HasTouchedLog, touched_on}
-use Rattle.recovery.specs.NextLog.{HasTouchedNextLog, next_log_on}
+use Rattle.recovery.specs.NextLog.{HasTouchedNext, next_log_on}
 use Rattle.pebbles_cli.proofs.Handing.{tells_itself}
 use Rattle.disk_model.specs.declared.journal_file.JournalFile.{JournalFile}
+use Rattle.disk_model.specs.declared.journal_file.JournalFile.TheVariants.{Log}
+use Rattle.peb_base.specs.declared.profile.Profile.TheVariants.{Small}
+use Rattle.flsm_model.specs.Shape.{Record}
+use Rattle.store_layout.specs.Recorded.{session_of_record}
 use Rattle.flsm_core.specs.declared.sync_fault.SyncFault.{SyncFault}
 use Rattle.flsm_core.specs.declared.sync_fault.SyncFault.TheVariants as syncs
-use Rattle.flsm_core.specs.Place.{Start, Place, all_of, opened, after_sync, Syncs}
+use Rattle.flsm_core.specs.Place.{Start, Place, all_of, opened, WasRecordOf, after_sync, Syncs}
 use Rattle.pebbles_cli.specs.declared.served.Served.{Served}
 use Rattle.peb_base.specs.declared.limit_kind.LimitKind.TheVariants as kinds
 use Rattle.disk_model.specs.Directories.{after_choice, after_opening}
@@ -32,9 +36,9 @@ use Rattle.pebbles_cli.specs.Names.{replies_name}
 use Rattle.pebbles_cli.specs.Causes.{Says, IsBeforeOpening, IsOpeningCause, OpeningCause, opening_cause, IsScript, JournalRose, LineCause, ReportCause, SinkCause, PlayCause, ScriptCause, RefusalCause, sink_cause, end_of}
 use Rattle.pebbles_cli.specs.Outside.{DevicesTold, SinksTold, Outside}
 use Rattle.pebbles_cli.specs.Tells.{TookMore, sync_cause}
-use Rattle.pebbles_cli.specs.Top.{Asked, Run, Went, IsTaken, IsServed, RepliesStay, Closed, IsClosed, IsDone, IsNext, Ran, AreInOrOn, PlaysIn, PlaysSomehow, run_report}
+use Rattle.pebbles_cli.specs.Top.{Asked, Run, Went, IsTaken, IsServed, RepliesStay, Closed, IsClosed, IsDone, Ran, AreInOrOn, PlaysIn, PlaysSomehow, run_report}
 use Rattle.pebbles_cli.proofs.Serving.{took_none, took_more, took_front, rose_later}
-use Rattle.pebbles_cli.proofs.Growing.{run_goes_on, run_start, sync_start}
+use Rattle.pebbles_cli.proofs.Growing.{opening_of, run_goes_on, run_start, sync_start}
 use Rattle.pebbles_cli.proofs.Numbering.{run_told, weaker}
 
 -- ---- the closing sync and the report
@@ -172,7 +176,7 @@ refused_cause text old new cause (inr (script, is)) = subst (PlayCause text old 
 
 pub somehow_cause : (asked : Asked) (old new : Outside) (cause : Cause) → PlaysSomehow asked old new cause → PlayCause asked.text old new cause
 somehow_cause asked old new cause (inl not) = refused_cause asked.text old new cause not.why
-somehow_cause asked old new cause (inr ran) = ran_cause _ asked old new cause refl ran.1.1
+somehow_cause asked old new cause (inr ran) = ran_cause _ asked old new cause refl ran.1.1.1
 
 -- ---- status 0
 
@@ -222,13 +226,13 @@ is_done run old mid new went closed served running closing e =
           ∙ nothing_waits went.place closed.answer (served_on run old mid went served running no_fault taken) closing.closes no_close;
     }
 
--- the commands and the closing leave what the opening began with
-pub starts_of : (run : Run) (old mid : SinksTold) (new : Outside) (went : Went) (closed : Closed) → IsServed run old mid went → IsClosed went.place mid new closed → closed.place.start ≡ run.start.start
+-- the commands and the closing leave what the opening began with, and the record
+pub starts_of : (run : Run) (old mid : SinksTold) (new : Outside) (went : Went) (closed : Closed) → IsServed run old mid went → IsClosed went.place mid new closed → opening_of closed.place ≡ opening_of run.start
 starts_of run old mid new went closed (inl answered) closing =
-    ap (λ (p : Place). p.start) closing.leads ∙ sync_start went.place closed.answer
+    ap opening_of closing.leads ∙ sync_start went.place closed.answer
     ∙ run_start run.session run.start run.commands went.text went.served.fault went.served.sink_failed went.place answered.told
 starts_of run old mid new went closed (inr unheard) closing =
-    ap (λ (p : Place). p.start) closing.leads ∙ sync_start went.place closed.answer ∙ ap (λ (p : Place). p.start) unheard.place
+    ap opening_of closing.leads ∙ sync_start went.place closed.answer ∙ ap opening_of unheard.place
 
 pub taken_all : (fresh taken took : Option (List ℕ)) (text : List ℕ) → IsFresh fresh → TookMore fresh text taken → took ≡ taken → IsTaken took text
 taken_all fresh taken None text unused more same = tt
@@ -243,9 +247,9 @@ taken_all (Some f) (Some s) (Some t) text unused more same =
 -- ---- the whole run
 
 -- an opening began a log, calls changed it, and so did the closing
-pub touched_all : (tells : Bool) (file file' : JournalFile) (a b c d : JournalTold) → HasTouchedNextLog tells file a b → HasTouchedLog tells file file' b c → HasTouched tells file' c d → HasTouchedNextLog tells file a d
+pub touched_all : (tells : Bool) (file file' : JournalFile) (a b c d : JournalTold) → HasTouchedNext tells Small file a b → HasTouchedLog tells file file' b c → HasTouched tells file' c d → HasTouchedNext tells Small file a d
 touched_all tells file file' a b c d next log last =
-    next_log_on tells file a a b d (tells_itself a) next
+    next_log_on tells Small file a a b d (tells_itself a) next
     (touched_on tells file b c d log.touched (subst (λ (f : JournalFile). HasTouched tells f c d) log.log last))
 
 -- calls went on from a log that was begun, and so did the closing
@@ -253,32 +257,33 @@ pub touched_rest : (tells : Bool) (file file' : JournalFile) (b c d : JournalTol
 touched_rest tells file file' b c d log last = touched_on tells file b c d log.touched (subst (λ (f : JournalFile). HasTouched tells f c d) log.log last)
 
 -- each image since the call began lies in the range, or goes on from what was opened
-in_or_on : (tells : Bool) (file : JournalFile) (range : Range) (start : Start) (p : Place) (told opening new : JournalTold) → p.start ≡ start → StartsIn range told start
+pub in_or_on : (tells : Bool) (file : JournalFile) (range : Range) (start : Start) (p : Place) (told opening new : JournalTold) → p.start ≡ start → StartsIn range told start
     → start.moment ≤ opening.moment → AreIn range (opening.left_since told.moment) → HasTouched tells file opening new → IsLeftBy p new
-    → AreInOrOn range start (all_of p) (new.left_since told.moment)
+    → AreInOrOn range p (new.left_since told.moment)
 in_or_on tells file range start p told opening new is starts before inside touched left = λ image since. elim (touched.since told.moment start.moment image starts.began before since) [
   | inl past ↦ inl (inside image past)
   | inr later ↦
       let honest : IsTrue p.start.honest = ap (λ (s : Start). s.honest) is ∙ starts.sure in
       let now : new.left_since p.start.moment image = subst (λ (t : ℕ). new.left_since t image) (sym (ap (λ (s : Start). s.moment) is)) later in
-      let leaves : Leaves start.profile start.base (all_of p) image = subst (λ (s : Start). Leaves s.profile s.base (all_of p) image) is (left.ever honest image now) in
-      inr (subst (λ (f : Profile). Leaves f start.base (all_of p) image) starts.profile leaves)
+      inr (subst (λ (f : Profile). Leaves f (WasRecordOf p) p.start.base (all_of p) image) (ap (λ (s : Start). s.profile) is ∙ starts.profile) (left.ever honest image now))
 ]
 
-pub ran_of : (start : Start) (asked : Asked) (old mid new : Outside) (cause : Cause) (session : ℕ) (commands : List Command) (name : List ℕ) (went : Went) (closed : Closed)
-    → IsWithin asked.text 16777216 → Says asked.text commands → (IsTrue old.devices.tells → IsNext old.devices.journal.seen session)
+pub ran_of : (start : Start) (log : ℕ) (asked : Asked) (old mid new : Outside) (cause : Cause) (session : ℕ) (commands : List Command) (name : List ℕ) (went : Went) (closed : Closed)
+    → IsWithin asked.text 16777216 → Says asked.text commands → session ≡ session_of_record start.profile start.edits + 1
     → last_number start.base < session * 2 ^ 40 → session ≤ 8388607
     → new.devices.directories ≡ after_opening (after_choice asked.dir old.devices.directories) → name ≡ replies_name asked.file
-    → IsServed (record { session = session; start = opened start; name = name; commands = commands }) old.sinks mid.sinks went
+    → IsServed (record { session = session; start = opened start log; name = name; commands = commands }) old.sinks mid.sinks went
     → IsClosed went.place mid.sinks new closed → mid.sinks.report ≡ old.sinks.report → old.sinks.faults ≤ mid.sinks.faults
-    → cause ≡ end_of went.served.fault went.served.sink_failed (sync_cause closed.answer) closed.report → (file : JournalFile) → HasTouchedNextLog old.devices.tells file old.devices.journal new.devices.journal → TablesStay old.devices.tables new.devices.tables
+    → cause ≡ end_of went.served.fault went.served.sink_failed (sync_cause closed.answer) closed.report → HasTouchedNext old.devices.tells Small (Log log) old.devices.journal new.devices.journal → TablesStay old.devices.tables new.devices.tables
     → Ran start asked old new cause
-ran_of start asked old mid new cause session commands name went closed short says next above possible directory named served closing same later ends file touched tables =
-    let run : Run = record { session = session; start = opened start; name = replies_name asked.file; commands = commands } in
+ran_of start log asked old mid new cause session commands name went closed short says next above possible directory named served closing same later ends touched tables =
+    let run : Run = record { session = session; start = opened start log; name = replies_name asked.file; commands = commands } in
     let all : IsServed run old.sinks mid.sinks went =
-    subst (λ (n : List ℕ). IsServed (record { session = session; start = opened start; name = n; commands = commands }) old.sinks mid.sinks went) named served in
+    subst (λ (n : List ℕ). IsServed (record { session = session; start = opened start log; name = n; commands = commands }) old.sinks mid.sinks went) named served in
+    let kept = starts_of run old.sinks mid.sinks new went closed all closing in
     record {
       session = session;
+      log = log;
       commands = commands;
       went = went;
       closed = closed;
@@ -292,11 +297,12 @@ ran_of start asked old mid new cause session commands name went closed short say
       served = all;
       unreported = same;
       counted = later;
-      starts = starts_of run old.sinks mid.sinks new went closed all closing;
+      starts = ap (λ (x : Start × Record). x.0) kept;
+      recorded = ap (λ (x : Start × Record). x.1) kept;
       closing = closing;
       ends = ends;
       done = λ done. is_done run old.sinks mid.sinks new went closed all refl closing (sym ends ∙ done);
-      touched = (file, touched);
+      touched = touched;
       tables = tables;
     }
 

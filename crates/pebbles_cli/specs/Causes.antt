@@ -12,7 +12,7 @@ use Rattle.script.specs.declared.command.Command.{Command}
 use Rattle.script.specs.Script.{script_of}
 use Rattle.recovery.specs.declared.open_fault.OpenFault.{OpenFault}
 use Rattle.recovery.specs.declared.open_fault.OpenFault.TheVariants as opens
-use Rattle.recovery.specs.Opening.{OpenCause}
+use Rattle.recovery.specs.Reading.{StoreCause}
 use Rattle.pebbles_cli.specs.Outside.{DevicesTold, SinksTold, Outside}
 use Rattle.pebbles_cli.specs.Read.{IsWithin, HasMore}
 
@@ -63,7 +63,8 @@ opening_cause opens.Memory = causes.Memory
 
 -- an opening may be refused with this fault
 abbrev pub OpeningCause : DevicesTold → DevicesTold → OpenFault → Type 0
-OpeningCause old new fault = OpenCause (JournalRose old new) old.tells old.journal.seen Small fault
+OpeningCause old new fault =
+    StoreCause (JournalRose old new) old.tells old.journal.seen Small fault
 
 -- no store is opened for this cause alone
 pub record IsOpeningCause (old new : DevicesTold) (cause : Cause) : Type 0 where

@@ -7,7 +7,8 @@ use Rattle.disk_model.specs.declared.journal_file.JournalFile.TheVariants.{Log}
 use Rattle.disk_model.specs.Images.{Image}
 use Rattle.disk_model.specs.Told.{JournalTold}
 use Rattle.script.specs.declared.cause.Cause.{Cause}
-use Rattle.recovery.specs.Opening.{OpensOn}
+use Rattle.flsm_model.specs.Shape.{Record}
+use Rattle.recovery.specs.Opened.{OpensBy}
 use Rattle.flsm_core.specs.Place.{Start, start_at, all_of}
 use Rattle.recovery.specs.Range.{Range, AreIn}
 use Rattle.recovery.specs.NextLog.{IsFinished}
@@ -28,20 +29,28 @@ abbrev pub least_after : {start : Start} {asked : Asked} {old new : Outside} {ca
 least_after {start = start} (inl not_opened) = start.base
 least_after (inr ran) = ran.closed.place.settled
 
--- at least these batches and at most those, in a small store
-abbrev pub small_range : Batches → Batches → Range
-small_range least all = record { profile = Small; least = least; all = all }
+-- the edits that must be recorded: where no store was opened, those of before
+abbrev pub edits_after : {start : Start} {asked : Asked} {old new : Outside} {cause : Cause}
+    → Plays start asked old new cause → Record
+edits_after {start = start} (inl not_opened) = start.edits
+edits_after (inr ran) = ran.closed.place.edits
 
--- Over a journal whose images all stood for the base: after a run the images of a crash lie in the
--- range from the settled batches to all, and those of any moment since it began in that from the
--- base. So the next run has what its promise asks, whenever this one was stopped.
+-- at least these batches and at most those, behind these edits, in a small store
+abbrev pub small_range : Batches → Batches → Record → Range
+small_range least all edits =
+    record { profile = Small; least = least; all = all; edits = edits }
+
+-- Over a journal whose images all stood for the base and one record: after a run the images of a
+-- crash lie in the range from the settled batches to all, and those of any moment since it began in
+-- that from the base. So the next run has what its promise asks, whenever this one was stopped.
 abbrev pub LeavesRanges : Outside → Outside → Type 0
-LeavesRanges old new = (asked : Asked) (cause : Cause) (base : Batches)
+LeavesRanges old new = (asked : Asked) (cause : Cause) (base : Batches) (edits : Record)
     → IsTrue old.devices.tells → IsTrue new.devices.tells
-    → OpensOn Small true base old.devices.journal.seen old.devices.journal.may_leave
-    → (plays : Plays (start_at old.devices.journal Small true base) asked old new cause)
-    → AreIn (small_range (least_after plays) (all_after plays)) new.devices.journal.may_leave
-    × AreIn (small_range base (all_after plays))
+    → OpensBy Small edits true base old.devices.journal
+    → (plays : Plays (start_at old.devices.journal Small true base edits) asked old new cause)
+    → AreIn (small_range (least_after plays) (all_after plays) (edits_after plays))
+    new.devices.journal.may_leave
+    × AreIn (small_range base (all_after plays) edits)
     (new.devices.journal.left_since old.devices.journal.moment)
 
 -- ---- what was there before

@@ -1,5 +1,5 @@
 -- What a run does.
-use Rattle.std.specs.Prelude.{◌≡◌, ◌≢◌, ◌⊎◌, ℕ, suc, ◌*◌, ◌^◌, ◌<◌, ◌≤◌, IsTrue, Bool, true, false, List, [], take, Option, Some, None, Result}
+use Rattle.std.specs.Prelude.{◌≡◌, ◌≢◌, ◌⊎◌, ℕ, ◌+◌, ◌*◌, ◌^◌, ◌<◌, ◌≤◌, IsTrue, Bool, true, false, List, [], ◌∷◌, ◌++◌, take, Option, Some, None, Result}
 use Rattle.peb_base.specs.declared.profile.Profile.TheVariants.{Small}
 use Rattle.peb_base.specs.Batches.{Batches, last_number}
 use Rattle.peb_base.specs.Faults.{Rose}
@@ -13,10 +13,15 @@ use Rattle.disk_model.specs.SinkNames.{after_client, after_return}
 use Rattle.disk_model.specs.Told.{JournalTold, TablesStay}
 use Rattle.disk_model.specs.declared.journal_file.JournalFile.{JournalFile}
 use Rattle.flsm_core.specs.declared.sync_fault.SyncFault.{SyncFault}
-use Rattle.flsm_core.specs.Place.{Start, Place, all_of, opened, start_at, after_sync, Syncs}
-use Rattle.store_layout.specs.Logs.{Held, HoldsLogs, ReadsAs, Stands, greatest_session}
-use Rattle.recovery.specs.Opening.{OpensOn, HasWatched}
-use Rattle.recovery.specs.NextLog.{HasTouchedNextLog}
+use Rattle.disk_model.specs.declared.journal_file.JournalFile.TheVariants.{Log, ManifestA}
+use Rattle.flsm_model.specs.Shape.{Record}
+use Rattle.flsm_core.specs.Place.{Start, Place, all_of, opened, start_at, WasRecordOf, after_sync, Syncs}
+use Rattle.flsm_core.specs.Touched.{HasTouched}
+use Rattle.store_layout.specs.Logs.{Held}
+use Rattle.store_layout.specs.Recorded.{ReadsBy, session_of_record, next_opening}
+use Rattle.recovery.specs.Opened.{OpensBy, LeavesOpening}
+use Rattle.recovery.specs.Opening.{HasWatched}
+use Rattle.recovery.specs.NextLog.{HasTouchedNext}
 use Rattle.recovery.specs.Range.{Range, IsIn, AreIn, StartsIn}
 use Rattle.flsm_core.specs.Standing.{Leaves, IsLeftBy}
 use Rattle.pebbles_cli.specs.declared.served.Served.{Served}
@@ -124,12 +129,6 @@ pub record IsClosed (answered : Place) (before : SinksTold) (new : Outside) (clo
 
 -- ---- the whole
 
--- the session after the greatest one of the image's logs
-pub record IsNext (seen : Image) (session : ℕ) : Type 0 where
-  pub logs : List Held
-  pub holds : HoldsLogs 1 logs seen
-  pub after : session ≡ suc (greatest_session logs)
-
 -- at status 0 each command was answered without a fault, the report is whole, and no batch waits
 pub record IsDone (went : Went) (closed : Closed) : Type 0 where
   pub no_fault : went.served.fault ≡ None
@@ -137,21 +136,22 @@ pub record IsDone (went : Went) (closed : Closed) : Type 0 where
   pub reported : closed.report ≡ None
   pub settled : closed.place.waiting ≡ []
 
--- no file of the journal was changed, or one, the first log that wasn't there
+-- no file of the journal was changed, or the manifest and the first log that wasn't there at most
 abbrev pub TouchesAtMost : Bool → JournalTold → JournalTold → Type 0
 TouchesAtMost tells old new = HasWatched old new
-    ⊎ ((file : JournalFile) × HasTouchedNextLog tells file old new)
+    ⊎ ((file : JournalFile) × HasTouchedNext tells Small file old new)
 
 -- a store was opened so, the commands of the script were run, and the store was closed
 pub record Ran (start : Start) (asked : Asked) (old new : Outside) (cause : Cause) : Type 0 where
   pub session : ℕ
+  pub log : ℕ
   pub commands : List Command
   pub went : Went
   pub closed : Closed
   -- what was opened
   pub short : IsWithin asked.text 16777216
   pub says : Says asked.text commands
-  pub next : IsTrue old.devices.tells → IsNext old.devices.journal.seen session
+  pub next : session ≡ session_of_record start.profile start.edits + 1
   pub above : last_number start.base < session * 2 ^ 40
   pub possible : session ≤ 8388607
   pub directory : new.devices.directories
@@ -161,7 +161,7 @@ pub record Ran (start : Start) (asked : Asked) (old new : Outside) (cause : Caus
   pub served : IsServed
       (record {
         session = session;
-        start = opened start;
+        start = opened start log;
         name = replies_name asked.file;
         commands = commands;
       })
@@ -170,13 +170,15 @@ pub record Ran (start : Start) (asked : Asked) (old new : Outside) (cause : Caus
   pub counted : old.sinks.faults ≤ replied.faults
   -- how it ended
   pub starts : closed.place.start ≡ start
+  pub recorded : closed.place.edits
+      ≡ start.edits ++ next_opening start.profile start.edits log ∷ []
   pub closing : IsClosed went.place replied new closed
   pub ends : cause
       ≡ end_of went.served.fault went.served.sink_failed (sync_cause closed.answer) closed.report
   pub done : cause ≡ causes.Done → IsDone went closed
   -- what stays
-  pub touched : (file : JournalFile)
-      × HasTouchedNextLog old.devices.tells file old.devices.journal new.devices.journal
+  pub touched : HasTouchedNext old.devices.tells Small (Log log) old.devices.journal
+      new.devices.journal
   pub tables : TablesStay old.devices.tables new.devices.tables
 
 -- no store was opened
@@ -185,27 +187,32 @@ pub record NotOpened (asked : Asked) (old new : Outside) (cause : Cause) : Type 
   pub directory : OpensAtMost asked.dir old.devices.directories new.devices.directories
   -- nothing was replied or reported
   pub sinks : new.sinks ≡ old.sinks
-  -- but for a fault of the journal no file of it was changed, and else its next log at most
-  pub untouched : cause ≢ causes.Journal → HasWatched old.devices.journal new.devices.journal
+  -- but for a fault of the journal, and want of memory, no file of it was changed; for want of
+  -- memory at most the manifest was, and else that and its next log
+  pub untouched : cause ≢ causes.Journal → cause ≢ causes.Memory
+      → HasWatched old.devices.journal new.devices.journal
+  pub memory : cause ≡ causes.Memory → HasTouched old.devices.tells ManifestA old.devices.journal
+      new.devices.journal
   pub touched : TouchesAtMost old.devices.tells old.devices.journal new.devices.journal
   -- and no crash since lost what was there, nor does one now
-  pub ever : IsTrue old.devices.tells → (base : Batches)
-      → OpensOn Small true base old.devices.journal.seen old.devices.journal.may_leave
-      → (image : Image) → new.devices.journal.left_since old.devices.journal.moment image
-      → Stands Small base image
-  pub now : IsTrue old.devices.tells → (base : Batches)
-      → OpensOn Small true base old.devices.journal.seen old.devices.journal.may_leave
-      → (image : Image) → new.devices.journal.may_leave image → Stands Small base image
+  pub ever : IsTrue old.devices.tells → (base : Batches) (edits : Record)
+      → OpensBy Small edits true base old.devices.journal
+      → LeavesOpening Small base edits
+      (new.devices.journal.left_since old.devices.journal.moment)
+  pub now : IsTrue old.devices.tells → (base : Batches) (edits : Record)
+      → OpensBy Small edits true base old.devices.journal
+      → LeavesOpening Small base edits new.devices.journal.may_leave
   pub tables : TablesStay old.devices.tables new.devices.tables
 
 -- the script was run over a store that was opened so, or no store was opened
 abbrev pub Plays : Start → Asked → Outside → Outside → Cause → Type 0
 Plays start asked old new cause = NotOpened asked old new cause ⊎ Ran start asked old new cause
 
--- each of these images lies in the range, or has first batches of these, with the opening's base
-abbrev pub AreInOrOn : Range → Start → Batches → (Image → Type 0) → Type 0
-AreInOrOn range start all images = (image : Image) → images image
-    → IsIn range image ⊎ Leaves range.profile start.base all image
+-- each of these images lies in the range, or has first batches of those at this place, with the
+-- opening's base, and a record of this place
+abbrev pub AreInOrOn : Range → Place → (Image → Type 0) → Type 0
+AreInOrOn range p images = (image : Image) → images image
+    → IsIn range image ⊎ Leaves range.profile (WasRecordOf p) p.start.base (all_of p) image
 
 -- Over a journal whose images lie in a range: the script was run over a store that was opened on
 -- what was read, and each image left since lies in the range or goes on from there; or no store was
@@ -216,13 +223,15 @@ PlaysIn range asked old new cause =
     × AreIn range (new.devices.journal.left_since old.devices.journal.moment))
     ⊎ ((start : Start) × StartsIn range old.devices.journal start
     × (ran : Ran start asked old new cause)
-    × AreInOrOn range start (all_of ran.closed.place)
+    × AreInOrOn range ran.closed.place
     (new.devices.journal.left_since old.devices.journal.moment))
 
--- the script was run over a store that was opened over some base, which was read where reads are
--- told, or no store was opened
+-- the script was run over a store that was opened over some base and record, which were read where
+-- reads are told, or no store was opened
 abbrev pub PlaysSomehow : Asked → Outside → Outside → Cause → Type 0
 PlaysSomehow asked old new cause =
     NotOpened asked old new cause
-    ⊎ ((base : Batches) × ((IsTrue old.devices.tells → ReadsAs Small base old.devices.journal.seen)
-    × Ran (start_at old.devices.journal Small false base) asked old new cause))
+    ⊎ ((base : Batches) × ((edits : Record)
+    × ((IsTrue old.devices.tells → (logs : List Held)
+    × ReadsBy Small edits old.devices.journal.seen logs base)
+    × Ran (start_at old.devices.journal Small false base edits) asked old new cause)))

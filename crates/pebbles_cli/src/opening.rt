@@ -1,21 +1,25 @@
-ghost use Rattle.std.specs.Prelude.{◌≡◌, ◌≢◌, ◌⊎◌, ◌≤◌, ◌<◌, ◌*◌, ◌^◌, ℕ, Bool, true, false, IsTrue, IfOk, IfErr, OnOk, OnErr};
+ghost use Rattle.std.specs.Prelude.{◌≡◌, ◌≢◌, ◌⊎◌, ◌≤◌, ◌<◌, ◌*◌, ◌^◌, ℕ, Bool, true, false, List, IsTrue, IfOk, IfErr, OnOk, OnErr};
 ghost use Rattle.peb_base.specs.declared.profile.Profile.TheVariants.{Small};
-ghost use Rattle.peb_base.specs.Batches.{Batches, last_number};
+ghost use Rattle.peb_base.specs.Batches.{Batches};
 ghost use Rattle.disk_model.specs.Directories.{after_choice, after_opening};
 ghost use Rattle.disk_model.specs.Told.{TellsTheSame, TablesStay, told_by};
-ghost use Rattle.disk_model.specs.Images.{Image};
-ghost use Rattle.flsm_core.specs.Place.{Place, Start, opened, start_at};
-ghost use Rattle.recovery.specs.Range.{Range, AreIn, StartsIn};
-ghost use Rattle.store_layout.specs.Logs.{ReadsAs, Stands};
-ghost use Rattle.recovery.specs.Opening.{OpensOn, HasWatched};
+ghost use Rattle.disk_model.specs.declared.journal_file.JournalFile.TheVariants.{ManifestA};
+ghost use Rattle.flsm_model.specs.Shape.{Record};
+ghost use Rattle.store_layout.specs.Logs.{Held};
+ghost use Rattle.store_layout.specs.Recorded.{ReadsBy};
+ghost use Rattle.flsm_core.specs.Place.{Place, start_at};
 ghost use Rattle.flsm_core.specs.Standing.{IsAt, IsLeftBy};
 ghost use Rattle.flsm_core.specs.State.{state_session, state_journal, state_file};
-ghost use Rattle.recovery.specs.NextLog.{HasTouchedNextLog};
+ghost use Rattle.flsm_core.specs.Touched.{HasTouched};
+ghost use Rattle.recovery.specs.NextLog.{HasTouchedNext};
+ghost use Rattle.recovery.specs.Opened.{OpensBy, OpenedOn, LeavesOpening};
+ghost use Rattle.recovery.specs.Opening.{HasWatched};
+ghost use Rattle.recovery.specs.Range.{Range, AreIn, OpenedIn};
 ghost use Rattle.script.specs.declared.cause.Cause.TheVariants as causes;
 ghost use Rattle.pebbles_cli.specs.Causes.{IsOpeningCause, opening_cause};
 ghost use Rattle.pebbles_cli.specs.Names.{OpensAtMost};
 ghost use Rattle.pebbles_cli.specs.Outside.{devices_told};
-ghost use Rattle.pebbles_cli.specs.Top.{IsNext, TouchesAtMost};
+ghost use Rattle.pebbles_cli.specs.Top.{TouchesAtMost};
 
 use disk_model::Devices;
 use flsm_core::State;
@@ -37,8 +41,8 @@ fn opening_cause(fault: OpenFault) -> Cause
 }
 
 /// Opens the store of a directory in the profile `small`. Where that fails the devices have their
-/// journal back, and each crash since leaves what was there; but for a fault of the journal no file
-/// was changed.
+/// journal back, and each crash since leaves what was there; but for a fault of the journal, and for
+/// want of memory, no file was changed.
 pub fn open_store<D: Devices>(
     alloc: Global,
     dir: &str,
@@ -46,28 +50,21 @@ pub fn open_store<D: Devices>(
 ) -> Result<State<D::J>, Cause>
     // what it gives
     ensures stands { IfOk result (λ state. IsTrue D.J.tells → (honest : Bool) (base : Batches)
-        → OpensOn Small honest base (D.journal_told devices.old).seen
-        (D.journal_told devices.old).may_leave
-        → IsAt D.J.Journal state (opened (start_at (D.journal_told devices.old) Small honest base))
-        × IsNext (D.journal_told devices.old).seen (state_session state)
-        × (last_number base < state_session state * 2 ^ 40)) }
-    ensures somewhere { IfOk result (λ state. (base : Batches)
-        × (IsTrue D.J.tells → ReadsAs Small base (D.journal_told devices.old).seen)
-        × IsAt D.J.Journal state (opened (start_at (D.journal_told devices.old) Small false base))
-        × (IsTrue D.J.tells → IsNext (D.journal_told devices.old).seen (state_session state))
-        × (last_number base < state_session state * 2 ^ 40)) }
+        (edits : Record) → OpensBy Small edits honest base (D.journal_told devices.old)
+        → OpenedOn D.J.Journal state
+        (start_at (D.journal_told devices.old) Small honest base edits)) }
+    ensures somewhere { IfOk result (λ state. (base : Batches) × (edits : Record)
+        × (IsTrue D.J.tells → (logs : List Held)
+        × ReadsBy Small edits (D.journal_told devices.old).seen logs base)
+        × OpenedOn D.J.Journal state
+        (start_at (D.journal_told devices.old) Small false base edits)) }
     ensures within { IfOk result (λ state. IsTrue D.J.tells → (range : Range)
         → range.profile ≡ Small → AreIn range (D.journal_told devices.old).may_leave
-        → (start : Start) × StartsIn range (D.journal_told devices.old) start
-        × IsAt D.J.Journal state (opened start)
-        × IsNext (D.journal_told devices.old).seen (state_session state)
-        × (last_number start.base < state_session state * 2 ^ 40)
-        × AreIn range (D.J.left_since (state_journal state)
-        (D.journal_told devices.old).moment)) }
+        → OpenedIn D.J.Journal state (D.journal_told devices.old) range) }
     ensures possible { IfOk result (λ state. state_session state ≤ 8388607) }
     ensures opened { OnOk result (D.directories devices.new
         ≡ after_opening (after_choice dir.now (D.directories devices.old))) }
-    ensures next_log { IfOk result (λ state. HasTouchedNextLog D.J.tells (state_file state)
+    ensures next_log { IfOk result (λ state. HasTouchedNext D.J.tells Small (state_file state)
         (D.journal_told devices.old) (told_by D.J.Journal (state_journal state))) }
     // when it fails
     ensures cause { IfErr result
@@ -76,16 +73,17 @@ pub fn open_store<D: Devices>(
     // what it leaves
     ensures refused { OnErr result (OpensAtMost dir.now (D.directories devices.old)
         (D.directories devices.new)) }
-    ensures untouched { IfErr result (λ cause. cause ≢ causes.Journal
+    ensures untouched { IfErr result (λ cause. cause ≢ causes.Journal → cause ≢ causes.Memory
         → HasWatched (D.journal_told devices.old) (D.journal_told devices.new)) }
+    ensures memory { IfErr result (λ cause. cause ≡ causes.Memory
+        → HasTouched D.J.tells ManifestA (D.journal_told devices.old)
+        (D.journal_told devices.new)) }
     ensures next_log_err { IfErr result (λ _. TouchesAtMost D.J.tells
         (D.journal_told devices.old) (D.journal_told devices.new)) }
-    ensures ever { IfErr result (λ cause. IsTrue D.J.tells → (base : Batches)
-        → OpensOn Small true base (D.journal_told devices.old).seen
-        (D.journal_told devices.old).may_leave
-        → (image : Image)
-        → (D.journal_told devices.new).left_since (D.journal_told devices.old).moment image
-        → Stands Small base image) }
+    ensures ever { IfErr result (λ cause. IsTrue D.J.tells → (base : Batches) (edits : Record)
+        → OpensBy Small edits true base (D.journal_told devices.old)
+        → LeavesOpening Small base edits
+        ((D.journal_told devices.new).left_since (D.journal_told devices.old).moment)) }
     ensures ever_within { IfErr result (λ cause. IsTrue D.J.tells → (range : Range)
         → range.profile ≡ Small → AreIn range (D.journal_told devices.old).may_leave
         → AreIn range ((D.journal_told devices.new).left_since

@@ -2,7 +2,8 @@ ghost use Rattle.std.specs.Prelude.{◌≡◌, ◌≤◌, ℕ, List, Bool, true,
 ghost use Rattle.peb_base.specs.declared.profile.Profile.TheVariants.{Small};
 ghost use Rattle.peb_base.specs.Batches.{Batches};
 ghost use Rattle.disk_model.specs.Told.{TablesStay, told_by};
-ghost use Rattle.recovery.specs.Opening.{OpensOn};
+ghost use Rattle.flsm_model.specs.Shape.{Record};
+ghost use Rattle.recovery.specs.Opened.{OpensBy};
 ghost use Rattle.flsm_core.specs.Place.{Place, start_at};
 ghost use Rattle.flsm_core.specs.Standing.{IsAt};
 ghost use Rattle.recovery.specs.Range.{Range, AreIn};
@@ -91,10 +92,9 @@ pub fn run_commands<D: Devices, K: Sinks>(
 ) -> Cause
     ensures ran { IsTrue D.J.tells → (text : Option (List ℕ)) → IsWithin text 16777216
         → Says text commands.items
-        → (honest : Bool) (base : Batches)
-        → OpensOn Small honest base (D.journal_told devices.old).seen
-        (D.journal_told devices.old).may_leave
-        → Plays (start_at (D.journal_told devices.old) Small honest base)
+        → (honest : Bool) (base : Batches) (edits : Record)
+        → OpensBy Small edits honest base (D.journal_told devices.old)
+        → Plays (start_at (D.journal_told devices.old) Small honest base edits)
         (record { dir = dir.now; file = file.now; text = text })
         (outside D.J.Journal D.Devices K.Sinks devices.old sinks.old)
         (outside D.J.Journal D.Devices K.Sinks devices.new sinks.new) result }

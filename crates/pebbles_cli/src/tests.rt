@@ -32,6 +32,13 @@ level 2 tables 0 entries 0 bytes 0 cuts 0 short 0 lost 0
 level 3 tables 0 entries 0 bytes 0 cuts 0 short 0 lost 0
 ";
 
+/// The manifest of a store in the small profile that was opened once, with log 1.
+const MANIFEST: &[u8] =
+    b"\x01FLSMM\x01\x01\0\0\0\0\0\0\0\x01\0\0\0\0\0\0\0\0\x01\0\0\0\x15\0\0\0\x11\x01\0\0\0\0\0\0\0\x01\0\0\0\0\0\0\0\x01\0";
+
+/// The opening of session 2 with log 2, as a group of the manifest, and the closed gate behind it.
+const SECOND_OPENING: &[u8] = b"\x01\0\0\0\x15\0\0\0\x11\x01\0\0\0\0\0\0\0\x02\0\0\0\0\0\0\0\x02\0";
+
 /// The log of a store in which `a` was set to `1`.
 const LOG: &[u8] =
     b"\x01FLSML\x01\x01\0\0\0\0\0\0\0\x01\0\0\0\0\0\0\0\x01\x01\0\0\0\x17\0\0\0\x13\0\0\x01\0\0\0\0\x01\0\x01\x01\0\x01a\0\0\0\x011\0";
@@ -50,13 +57,14 @@ const PICKS: [Pick; 6] = [
     Pick::Seeded(4),
 ];
 
-/// How a run ended, what it replied and reported, and the first log that it left.
+/// How a run ended, what it replied and reported, and the manifest and the first log that it left.
 #[derive(Debug, Drop)]
 struct Told {
     status: u8,
     cause: Cause,
     replies: Vec<u8>,
     report: Vec<u8>,
+    manifest: Vec<u8>,
     log: Vec<u8>,
 }
 
@@ -87,6 +95,7 @@ fn told_of(
         cause,
         replies: bytes_or_none(alloc, sinks.bytes_of(1))?,
         report: sinks.report_bytes().to_vec(alloc)?,
+        manifest: bytes_or_none(alloc, devices.bytes_of(JournalFile::ManifestA))?,
         log: bytes_or_none(alloc, devices.bytes_of(JournalFile::Log(1)))?,
     })
 }
@@ -139,10 +148,19 @@ fn run_two(alloc: Global, first: &[u8], second: &[u8]) -> Result<(Told, Told), F
     Ok((one, two))
 }
 
-/// Runs a script over a directory with one log.
-fn run_over(alloc: Global, log: &[u8], script: &[u8]) -> Result<Told, Fail> {
+/// Runs a script over a directory with a manifest, where there is one, and one log.
+fn run_over(
+    alloc: Global,
+    manifest: Option<&[u8]>,
+    log: &[u8],
+    script: &[u8],
+) -> Result<Told, Fail> {
     let devices = MemDevices::new(alloc, Plans::empty(alloc))?;
-    let (told, _) = run_well(alloc, devices.with_file(JournalFile::Log(1), log)?, script)?;
+    let mut devices = devices.with_file(JournalFile::Log(1), log)?;
+    if let Some(bytes) = manifest {
+        devices = devices.with_file(JournalFile::ManifestA, bytes)?;
+    }
+    let (told, _) = run_well(alloc, devices, script)?;
     Ok(told)
 }
 
@@ -170,9 +188,9 @@ fn failing(alloc: Global, call: u64) -> Result<FailPlan, Fail> {
     })
 }
 
-/// A log with other bytes at these places.
-fn log_with(alloc: Global, log: &[u8], changes: &[(usize, u8)]) -> Result<Vec<u8>, Fail> {
-    let mut bytes = log.to_vec(alloc)?;
+/// A file with other bytes at these places.
+fn file_with(alloc: Global, file: &[u8], changes: &[(usize, u8)]) -> Result<Vec<u8>, Fail> {
+    let mut bytes = file.to_vec(alloc)?;
     for (place, byte) in changes {
         if let Some(old) = bytes.get_mut(*place) {
             *old = *byte;
@@ -190,23 +208,27 @@ fn has_told(told: &Told, end: (Cause, u8), replies: &[u8], report: &[u8]) -> boo
 }
 
 /// Whether two runs over empty devices, one after another, went well and told so; and whether the
-/// first one left the log of one batch.
+/// first one left the manifest of one opening, and the log of one batch.
 fn two_tell(
     alloc: Global,
     scripts: [&[u8]; 2],
     replies: [&[u8]; 2],
     reports: [&[u8]; 2],
-) -> Result<([bool; 2], bool), Fail> {
+) -> Result<([bool; 2], [bool; 2]), Fail> {
     let (one, two) = run_two(alloc, scripts[0], scripts[1])?;
     let done = (Cause::Done, 0);
     let first = has_told(&one, done, replies[0], reports[0]);
     let second = has_told(&two, done, replies[1], reports[1]);
-    Ok(([first, second], one.log.as_slice() == LOG))
+    let files = [
+        one.manifest.as_slice() == MANIFEST,
+        one.log.as_slice() == LOG,
+    ];
+    Ok(([first, second], files))
 }
 
 #[test]
 fn a_put_is_read_by_its_run_and_by_the_next(rt: HostRuntime) -> Result<(), Fail> {
-    let (told, has_log) = two_tell(
+    let (told, has_files) = two_tell(
         rt.alloc(),
         [b"put! a 1\nget a\n".as_slice(), b"get a\n".as_slice()],
         [
@@ -216,8 +238,8 @@ fn a_put_is_read_by_its_run_and_by_the_next(rt: HostRuntime) -> Result<(), Fail>
         [REPORT, REPORT],
     )?;
     assert_eq!(rt; told, [true, true]);
-    assert!(rt; has_log);
-    assert_eq!(rt; LOG.len(), 53);
+    assert_eq!(rt; has_files, [true, true]);
+    assert_eq!(rt; [MANIFEST.len(), LOG.len()], [51, 53]);
     Ok(())
 }
 
@@ -233,36 +255,74 @@ fn an_empty_script_begins_a_session(rt: HostRuntime) -> Result<(), Fail> {
     Ok(())
 }
 
-/// Whether a store with these changes to its log is refused so, and its log is left alone.
-fn is_refused(alloc: Global, changes: &[(usize, u8)], end: (Cause, u8)) -> Result<bool, Fail> {
-    let log = log_with(alloc, LOG, changes)?;
-    let told = run_over(alloc, &log, b"get a\n")?;
-    Ok(has_told(&told, end, b"", b"") && told.log == log)
+/// Whether a store with these changes to its manifest and to its log is refused so, and both are
+/// left alone.
+fn is_refused(
+    alloc: Global,
+    record: &[(usize, u8)],
+    changes: &[(usize, u8)],
+    end: (Cause, u8),
+) -> Result<bool, Fail> {
+    let manifest = file_with(alloc, MANIFEST, record)?;
+    let log = file_with(alloc, LOG, changes)?;
+    let told = run_over(alloc, Some(&manifest), &log, b"get a\n")?;
+    Ok(has_told(&told, end, b"", b"") && told.manifest == manifest && told.log == log)
 }
 
 #[test]
 fn each_log_that_is_refused_has_its_cause(rt: HostRuntime) -> Result<(), Fail> {
     let alloc = rt.alloc();
-    let header = Cause::Damaged(FileName::Log(1), 0);
-    let record = Cause::Damaged(FileName::Log(1), 24);
-    let profile = Cause::Profile(Profile::Normal, Profile::Small);
-    let limit = Cause::Limit(LimitKind::Openings, 8_388_607);
-    // A byte of the header's letters, of the profile, of a batch of another session, and of an
-    // operation of no kind; and a session of which no later one is left.
+    let header = (Cause::Damaged(FileName::Log(1), 0), 6);
+    let record = (Cause::Damaged(FileName::Log(1), 24), 6);
+    // A byte of the header's letters, another profile than the manifest's, and a session that it
+    // doesn't have; a batch of another session, and an operation of no kind.
     let refused = [
-        is_refused(alloc, &[(1, b'f')], (header, 6))?,
-        is_refused(alloc, &[(7, 0)], (profile, 11))?,
-        is_refused(alloc, &[(35, 2)], (record, 6))?,
-        is_refused(alloc, &[(43, 2)], (record, 6))?,
-        is_refused(alloc, &[(21, 0x7f), (22, 0xff), (23, 0xff)], (limit, 8))?,
+        is_refused(alloc, &[], &[(1, b'f')], header)?,
+        is_refused(alloc, &[], &[(7, 0)], header)?,
+        is_refused(alloc, &[], &[(23, 2)], header)?,
+        is_refused(alloc, &[], &[(35, 2)], record)?,
+        is_refused(alloc, &[], &[(43, 2)], record)?,
     ];
     assert_eq!(rt; refused, [true; 5]);
     Ok(())
 }
 
-/// Runs `get a` over a directory with the first log and this second one.
+#[test]
+fn each_manifest_that_is_refused_has_its_cause(rt: HostRuntime) -> Result<(), Fail> {
+    let alloc = rt.alloc();
+    let header = (Cause::Damaged(FileName::ManifestA, 0), 6);
+    let edit = (Cause::Damaged(FileName::ManifestA, 24), 6);
+    let profile = (Cause::Profile(Profile::Normal, Profile::Small), 11);
+    let limit = (Cause::Limit(LimitKind::Openings, 8_388_607), 8);
+    let last = [(39, 0x7f), (40, 0xff), (41, 0xff)];
+    // A byte of the header's letters; an edit of no kind, and an opening that doesn't fit; another
+    // profile; and a session of which no later one is left. Damage of the log isn't looked for then.
+    let refused = [
+        is_refused(alloc, &[(1, b'f')], &[], header)?,
+        is_refused(alloc, &[(33, 9)], &[(1, b'f')], edit)?,
+        is_refused(alloc, &[(49, 2)], &[(1, b'f')], edit)?,
+        is_refused(alloc, &[(7, 0)], &[(1, b'f')], profile)?,
+        is_refused(alloc, &last, &[(1, b'f')], limit)?,
+    ];
+    assert_eq!(rt; refused, [true; 5]);
+    Ok(())
+}
+
+#[test]
+fn logs_without_a_manifest_are_refused(rt: HostRuntime) -> Result<(), Fail> {
+    let told = run_over(rt.alloc(), None, LOG, b"put! a 2\n")?;
+    let damaged = Cause::Damaged(FileName::Log(1), 0);
+    assert!(rt; has_told(&told, (damaged, 6), b"", b""));
+    assert!(rt; told.manifest.is_empty() && told.log.as_slice() == LOG);
+    Ok(())
+}
+
+/// Runs `get a` over a directory that was opened twice, with the first log and this second one.
 fn run_over_two(alloc: Global, second: &[u8]) -> Result<(Told, MemDevices), Fail> {
+    let mut manifest = MANIFEST[..50].to_vec(alloc)?;
+    manifest.extend_from_slice(SECOND_OPENING)?;
     let devices = MemDevices::new(alloc, Plans::empty(alloc))?;
+    let devices = devices.with_file(JournalFile::ManifestA, &manifest)?;
     let devices = devices.with_file(JournalFile::Log(1), LOG)?;
     run_well(
         alloc,
@@ -279,7 +339,7 @@ fn second_is_refused(
     changes: &[(usize, u8)],
     at: u64,
 ) -> Result<bool, Fail> {
-    let mut second = log_with(alloc, SECOND_LOG, changes)?;
+    let mut second = file_with(alloc, SECOND_LOG, changes)?;
     second.truncate(length);
     let (told, devices) = run_over_two(alloc, &second)?;
     let left = bytes_or_none(alloc, devices.bytes_of(JournalFile::Log(2)))?;
@@ -310,8 +370,8 @@ fn damage_of_a_second_log_is_told_where_it_is(rt: HostRuntime) -> Result<(), Fai
 
 /// The replies to a script over a log with these changes.
 fn replies_over(alloc: Global, changes: &[(usize, u8)], script: &[u8]) -> Result<Vec<u8>, Fail> {
-    let log = log_with(alloc, LOG, changes)?;
-    Ok(run_over(alloc, &log, script)?.replies)
+    let log = file_with(alloc, LOG, changes)?;
+    Ok(run_over(alloc, Some(MANIFEST), &log, script)?.replies)
 }
 
 #[test]

@@ -2,7 +2,8 @@ ghost use Rattle.std.specs.Prelude.{◌≡◌, ◌↔◌, ℕ, Bool, true, false
 ghost use Rattle.peb_base.specs.declared.profile.Profile.TheVariants.{Small};
 ghost use Rattle.peb_base.specs.Batches.{Batches};
 ghost use Rattle.peb_base.specs.Faults.{Rose};
-ghost use Rattle.recovery.specs.Opening.{OpensOn};
+ghost use Rattle.flsm_model.specs.Shape.{Record};
+ghost use Rattle.recovery.specs.Opened.{OpensBy};
 ghost use Rattle.flsm_core.specs.Place.{start_at};
 ghost use Rattle.recovery.specs.Range.{Range, AreIn};
 ghost use Rattle.script.specs.Cause.{status_of};
@@ -30,10 +31,9 @@ fn play<D: Devices, S: Scripts, K: Sinks>(
     sinks: &mut K,
 ) -> Cause
     // what it does
-    ensures ran { IsTrue D.J.tells → (honest : Bool) (base : Batches)
-        → OpensOn Small honest base (D.journal_told devices.old).seen
-        (D.journal_told devices.old).may_leave
-        → Plays (start_at (D.journal_told devices.old) Small honest base)
+    ensures ran { IsTrue D.J.tells → (honest : Bool) (base : Batches) (edits : Record)
+        → OpensBy Small edits honest base (D.journal_told devices.old)
+        → Plays (start_at (D.journal_told devices.old) Small honest base edits)
         (record { dir = dir.now; file = file.now; text = S.text scripts.old file.now })
         (outside D.J.Journal D.Devices K.Sinks devices.old sinks.old)
         (outside D.J.Journal D.Devices K.Sinks devices.new sinks.new) result }
@@ -74,7 +74,7 @@ fn play<D: Devices, S: Scripts, K: Sinks>(
 ///
 /// The devices come back with all that was made of them. A crash at any moment of the call, and
 /// after it, leaves the batches that were opened and first ones of the run, after it at least the
-/// settled ones.
+/// settled ones; and the record that was opened, or that and this opening, after it with the opening.
 pub fn top_plain<D: Devices, S: Scripts, K: Sinks>(
     alloc: Global,
     words: &[String],
@@ -85,9 +85,9 @@ pub fn top_plain<D: Devices, S: Scripts, K: Sinks>(
     // what it does: over a base that each image stood for, or that is read; over what is read,
     // where images differ within a range; and over some base in any case
     ensures ran { IfSome (run_words (map string_bytes words.now)) (λ names. IsTrue D.J.tells
-        → (honest : Bool) (base : Batches)
-        → OpensOn Small honest base (D.journal_told devices).seen (D.journal_told devices).may_leave
-        → Plays (start_at (D.journal_told devices) Small honest base)
+        → (honest : Bool) (base : Batches) (edits : Record)
+        → OpensBy Small edits honest base (D.journal_told devices)
+        → Plays (start_at (D.journal_told devices) Small honest base edits)
         (record { dir = names.0; file = names.1; text = S.text scripts.old names.1 })
         (outside D.J.Journal D.Devices K.Sinks devices sinks.old)
         (outside D.J.Journal D.Devices K.Sinks result.devices sinks.new) result.cause) }

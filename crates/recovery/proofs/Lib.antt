@@ -2,7 +2,6 @@ pub mod Begins
 pub mod Founds
 pub mod Opened
 pub mod Openings
-pub mod Ranges
 pub mod Readings
 pub mod Records
 pub mod Replays

@@ -1,5 +1,5 @@
 -- Logs that are read one after another, as a record asks for them.
-use Rattle.std.proofs.Common.{◌≡◌, ℕ, suc, ◌+◌, ◌<◌, ◌≤◌, Bool, IsTrue, List, [], ◌∷◌, ◌++◌, length, Some, None, Option, refl, sym, ap, ◌∙◌, subst, arith, inl, inr, length-append}
+use Rattle.std.proofs.Common.{◌≡◌, ℕ, ◌+◌, Bool, IsTrue, List, [], ◌∷◌, ◌++◌, Some, None, Option, refl, sym, ap, ◌∙◌, subst, arith, inl, inr, length-append}
 use Rattle.std.proofs.lemmas.Bool.{cases_lt}
 use Rattle.peb_base.specs.Batches.{Batches}
 use Rattle.peb_base.specs.declared.profile.Profile.{Profile}
@@ -13,7 +13,6 @@ use Rattle.record_log.specs.declared.log_fault.LogFault.{LogFault}
 use Rattle.record_log.specs.declared.log_fault.LogFault.TheVariants as logs
 use Rattle.record_log.specs.declared.record.Record.{Record}
 use Rattle.record_log.specs.Damage.{AtDamage}
-use Rattle.record_log.specs.Groups.{placed}
 use Rattle.record_log.specs.Log.{IsLog, IsUnfinished, IsDamaged, Holds}
 use Rattle.record_log.specs.Records.{views}
 use Rattle.record_log.specs.State.{log_file}

@@ -1,5 +1,5 @@
 -- What is damaged is never read by a record.
-use Rattle.std.proofs.Common.{◌≡◌, ℕ, ◌+◌, true, Bool, IsTrue, List, [], ◌∷◌, ◌++◌, length, Option, Some, sym, ap, ◌∙◌, subst, arith, inl, inr, append_assoc, false, refl, true≢false, length-append, ◌<◌}
+use Rattle.std.proofs.Common.{◌≡◌, ℕ, ◌+◌, true, Bool, IsTrue, List, [], ◌∷◌, ◌++◌, length, Option, Some, sym, ap, ◌∙◌, subst, arith, inl, inr, append_assoc, refl, true≢false, length-append, ◌<◌}
 use Rattle.peb_base.specs.Batches.{Batches, are_in_order}
 use Rattle.std.proofs.lemmas.Bool.{and_from, and_parts}
 use Rattle.peb_base.specs.declared.profile.Profile.{Profile}
@@ -9,7 +9,6 @@ use Rattle.flsm_model.specs.Fits.{fits, fit_from, is_legal_record}
 use Rattle.manifest.specs.Manifests.{IsManifest, IsDamagedManifest, IsDamagedBehind, manifest_header, edit_groups}
 use Rattle.disk_model.specs.declared.journal_file.JournalFile.TheVariants.{Log, ManifestA}
 use Rattle.disk_model.specs.Images.{Image}
-use Rattle.record_log.specs.declared.header.Header.{Header}
 use Rattle.record_log.specs.Groups.{placed, groups_bytes}
 use Rattle.record_log.specs.Header.{header_bytes}
 use Rattle.record_log.specs.Log.{IsLog, IsUnfinished, IsDamaged, HasNoHeader}

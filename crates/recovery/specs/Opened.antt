@@ -1,23 +1,19 @@
--- What an opening by the record rests on, and what it leaves.
-use Rattle.std.specs.Prelude.{◌≡◌, ◌≢◌, ◌⊎◌, ℕ, suc, ◌+◌, ◌<◌, ◌≤◌, Bool, true, false, IsTrue, List, [], ◌∷◌, ◌++◌, Option, None}
-use Rattle.peb_base.specs.Batches.{Batches}
+-- What an opening rests on, and what it leaves.
+use Rattle.std.specs.Prelude.{◌≡◌, ◌⊎◌, ℕ, ◌+◌, ◌*◌, ◌^◌, ◌<◌, ◌≤◌, Bool, true, false, List, [], ◌∷◌, ◌++◌, None}
+use Rattle.peb_base.specs.Batches.{Batches, last_number}
 use Rattle.peb_base.specs.declared.profile.Profile.{Profile}
 use Rattle.disk_model.specs.declared.journal.Journal.{Ghosts}
-use Rattle.disk_model.specs.declared.journal_file.JournalFile.{JournalFile}
 use Rattle.disk_model.specs.declared.journal_file.JournalFile.TheVariants.{Log, ManifestA}
 use Rattle.disk_model.specs.Images.{Image}
 use Rattle.disk_model.specs.Told.{JournalTold}
-use Rattle.record_log.specs.Log.{IsUnfinished}
 use Rattle.flsm_model.specs.Shape.{Record}
 use Rattle.manifest.specs.Manifests.{IsManifest}
-use Rattle.store_layout.specs.Fronts.{IsFront}
 use Rattle.store_layout.specs.Logs.{Held}
-use Rattle.store_layout.specs.Recorded.{HoldsRecord, session_of_record, first_log, next_opening, ReadsBy, StandsFor}
+use Rattle.store_layout.specs.Recorded.{HoldsRecord, session_of_record, first_log, next_opening, ReadsBy, StandsFor, StandsBeside}
+use Rattle.flsm_core.specs.Place.{Start, opened}
+use Rattle.flsm_core.specs.Standing.{IsAt}
 use Rattle.flsm_core.specs.declared.state.State.{State}
 use Rattle.flsm_core.specs.State.{state_session, state_file, state_journal}
-use Rattle.recovery.specs.NextLog.{IsFinished}
-use Rattle.recovery.specs.Range.{Range}
-use Rattle.recovery.specs.Session.{HasTouchedBoth}
 
 -- what an opening rests on: each image that a crash may leave stands for the base and this record,
 -- or at least they are read
@@ -27,15 +23,19 @@ OpensBy profile edits true base told = (image : Image) → told.may_leave image
 OpensBy profile edits false base told =
     (logs : List Held) × ReadsBy profile edits told.seen logs base
 
--- the image stands for the base, and for this record as it was or with its next opening
-abbrev pub StandsBeside : Profile → Batches → Record → ℕ → Image → Type 0
-StandsBeside profile base edits log image = StandsFor profile base edits image
-    ⊎ StandsFor profile base (edits ++ next_opening profile edits log ∷ []) image
-
 -- each of these images stands for the base, and for this record as it was or with one next opening
 abbrev pub LeavesOpening : Profile → Batches → Record → (Image → Type 0) → Type 0
 LeavesOpening profile base edits images =
     (log : ℕ) × ((image : Image) → images image → StandsBeside profile base edits log image)
+
+-- The state was opened so: it stands right behind the opening, whose first log is its own, and whose
+-- session is 1 + that of the record. No number of the base is of that session.
+pub record OpenedOn {D : Type 0} (d : Ghosts D) (state : State D) (start : Start) : Type 0 where
+  pub log : ℕ
+  pub file : state_file state ≡ Log log
+  pub next : state_session state ≡ session_of_record start.profile start.edits + 1
+  pub above : last_number start.base < state_session state * 2 ^ 40
+  pub stands : IsAt d state (opened start log)
 
 -- the state has this opening behind the record that was read of the journal, in each image: its
 -- session is the next one, and its log the first of it
@@ -48,44 +48,6 @@ pub record HasOpened {D : Type 0} (d : Ghosts D) (journal : D) (profile : Profil
   pub file : state_file state ≡ Log log
   pub kept : (image : Image) → d.may_leave (state_journal state) image
       → IsManifest profile (edits ++ next_opening profile edits log ∷ []) (image ManifestA)
-
--- ---- images that differ
-
--- the batches that must be there, and all that may; and the edits that the record begins with
-pub record Span : Type 0 where
-  pub batches : Range
-  pub edits : Record
-
--- the image stands for first batches of all, at least for the least, and for a record of these
--- edits and perhaps more
-pub record StandsIn (span : Span) (image : Image) : Type 0 where
-  pub batches : Batches
-  pub edits : Record
-  pub enough : IsFront span.batches.least batches
-  pub within : IsFront batches span.batches.all
-  pub later : Record
-  pub goes_on : edits ≡ span.edits ++ later
-  pub stands : StandsFor span.batches.profile batches edits image
-
--- each of these images does
-abbrev pub StandAllIn : Span → (Image → Type 0) → Type 0
-StandAllIn span images = (image : Image) → images image → StandsIn span image
-
--- ---- files
-
--- Calls changed no file but the manifest and this one: the first log that wasn't there, behind those
--- that the record asks for.
-pub record HasTouchedNext (tells : Bool) (profile : Profile) (file : JournalFile)
-    (old new : JournalTold) : Type 0 where
-  pub edits : Record
-  pub number : ℕ
-  pub some : 1 ≤ number
-  pub named : file ≡ Log number
-  pub recorded : IsTrue tells → HoldsRecord profile edits (old.seen ManifestA)
-  pub absent : IsTrue tells → IsUnfinished (old.seen (Log number))
-  pub first : IsTrue tells → (m : ℕ) → first_log profile edits ≤ m → m < number
-      → IsFinished m old.seen
-  pub touched : HasTouchedBoth tells file old new
 
 -- the image has the logs below those that its record asks for as they were read, down to one that
 -- wasn't there

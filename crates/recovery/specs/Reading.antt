@@ -1,17 +1,17 @@
 -- What is read of a store by its record, and why it isn't.
-use Rattle.std.specs.Prelude.{◌≡◌, ◌≢◌, ◌⊎◌, ℕ, suc, ◌+◌, ◌<◌, ◌≤◌, Bool, IsTrue, List, [], ◌∷◌, length, Option, None}
+use Rattle.std.specs.Prelude.{◌≡◌, ◌⊎◌, ℕ, ◌+◌, ◌<◌, ◌≤◌, Bool, IsTrue, List, length, None}
 use Rattle.peb_base.specs.declared.file_name.FileName.TheVariants as names
 use Rattle.peb_base.specs.declared.profile.Profile.{Profile}
 use Rattle.peb_base.specs.Batches.{Batches}
 use Rattle.disk_model.specs.declared.journal.Journal.{Ghosts}
-use Rattle.disk_model.specs.declared.journal_file.JournalFile.TheVariants.{Log, ManifestA, ManifestB}
+use Rattle.disk_model.specs.declared.journal_file.JournalFile.TheVariants.{Log, ManifestA}
 use Rattle.disk_model.specs.Images.{Image, Keeps}
 use Rattle.record_log.specs.declared.header.Header.{Header}
 use Rattle.record_log.specs.Groups.{placed}
 use Rattle.record_log.specs.Log.{IsLog}
 use Rattle.flsm_model.specs.Shape.{Record}
 use Rattle.store_layout.specs.Logs.{Held, SpellsAll}
-use Rattle.store_layout.specs.Recorded.{Bounds, bounds_of, first_log, IsWithin, AreWithin, BeginsFrom, HoldsRecord, ReadsBy, StandsFor, next_opening}
+use Rattle.store_layout.specs.Recorded.{Bounds, bounds_of, IsWithin, AreWithin, BeginsFrom, HoldsRecord, ReadsBy}
 use Rattle.recovery.specs.declared.logs_read.LogsRead.{LogsRead}
 use Rattle.recovery.specs.declared.open_fault.OpenFault.{OpenFault}
 use Rattle.recovery.specs.declared.open_fault.OpenFault.TheVariants as opens

@@ -13,7 +13,7 @@ use Rattle.record_log.specs.Groups.{groups_bytes}
 use Rattle.record_log.specs.Log.{HasNoHeader, IsUnfinished}
 use Rattle.flsm_model.specs.declared.edit.Edit.{Edit}
 use Rattle.flsm_model.specs.Fits.{is_legal_record}
-use Rattle.flsm_model.specs.Shape.{Record, shape_of}
+use Rattle.flsm_model.specs.Shape.{Record}
 use Rattle.manifest.specs.declared.append_fault.AppendFault.{AppendFault}
 use Rattle.manifest.specs.declared.append_fault.AppendFault.TheVariants as appends
 use Rattle.manifest.specs.declared.manifest_file.Manifest.{Manifest}

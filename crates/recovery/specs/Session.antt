@@ -1,8 +1,7 @@
 -- The beginning of a session: the opening is recorded, and then its log is made.
-use Rattle.std.specs.Prelude.{◌≡◌, ◌≢◌, ◌⊎◌, ℕ, ◌+◌, ◌≤◌, Bool, IsTrue, List, [], ◌∷◌, ◌++◌, Option, Result, Ok, Err}
+use Rattle.std.specs.Prelude.{◌≡◌, ◌≢◌, ◌⊎◌, ℕ, ◌+◌, ◌≤◌, Bool, IsTrue, [], ◌∷◌, ◌++◌, Result, Ok, Err}
 use Rattle.std.proofs.Common.{inl, inr, ◌∙◌, arith}
 use Rattle.peb_base.specs.declared.profile.Profile.{Profile}
-use Rattle.peb_base.specs.Batches.{Batches}
 use Rattle.disk_model.specs.declared.journal_file.JournalFile.{JournalFile}
 use Rattle.disk_model.specs.declared.journal_file.JournalFile.TheVariants.{Log, ManifestA}
 use Rattle.disk_model.specs.Images.{Image, In}
@@ -11,11 +10,13 @@ use Rattle.record_log.specs.declared.log_fault.LogFault.{LogFault}
 use Rattle.record_log.specs.declared.log_fault.LogFault.TheVariants as logs
 use Rattle.record_log.specs.Crash.{Creates}
 use Rattle.record_log.specs.Header.{log_header}
+use Rattle.record_log.specs.declared.header.Header.{Header}
 use Rattle.flsm_core.specs.declared.state.State.{State}
+use Rattle.flsm_core.specs.Place.{Start}
 use Rattle.flsm_core.specs.Touched.{HasTouched}
 use Rattle.flsm_model.specs.Shape.{Record}
 use Rattle.manifest.specs.Manifests.{IsManifest}
-use Rattle.store_layout.specs.Recorded.{session_of_record, next_opening, StandsFor}
+use Rattle.store_layout.specs.Recorded.{session_of_record, next_opening}
 use Rattle.recovery.specs.declared.open_fault.OpenFault.{OpenFault}
 use Rattle.recovery.specs.declared.open_fault.OpenFault.TheVariants as opens
 use Rattle.recovery.specs.Record.{Records}
@@ -30,6 +31,11 @@ abbrev pub creation_fault : LogFault → OpenFault
 creation_fault logs.Fault = opens.Journal
 creation_fault (logs.Damaged at) = opens.Journal
 creation_fault logs.Memory = opens.Memory
+
+-- the header of the log of an opening that begins so: of its profile, and of the next session
+pub record IsNextHeader (start : Start) (header : Header) : Type 0 where
+  pub profile : header.profile ≡ start.profile
+  pub session : header.session ≡ session_of_record start.profile start.edits + 1
 
 -- ---- what a crash leaves
 
@@ -75,33 +81,6 @@ pub record HasTouchedBoth (tells : Bool) (file : JournalFile)
   pub keeps : (t : ℕ) (image : Image) → t ≤ old.moment → old.left_since t image
       → new.left_since t image
 
--- the manifest first, and then the other file
-pub touched_both : (tells : Bool) (file : JournalFile) (a b c : JournalTold)
-    → HasTouched tells ManifestA a b → HasTouched tells file b c → HasTouchedBoth tells file a c
-touched_both tells file a b c one two = record {
-  later = omega (arith, one.later, two.later);
-  reads = λ other record_differs log_differs. two.reads other log_differs
-      ∙ one.reads other record_differs;
-  images = λ told t image le left.
-      let mid = two.images told t image (omega (arith, le, one.later)) left in
-      let first = one.images told t mid.0 le mid.1 in (
-        first.0,
-        first.1,
-        λ other record_differs log_differs. mid.2 other log_differs
-            ∙ first.2 other record_differs,
-      );
-  since = λ t s image low le left.
-      elim (two.since t s image low (omega (arith, le, one.later)) left) [
-        | inl mid ↦ elim (one.since t s image low le mid) [
-          | inl first ↦ inl first
-          | inr during ↦ inr (two.keeps s image (omega (arith, le, one.later)) during)
-        ]
-        | inr during ↦ inr during
-      ];
-  keeps = λ t image le left. two.keeps t image (omega (arith, le, one.later))
-      (one.keeps t image le left);
-}
-
 -- the manifest alone
 pub touched_manifest : (tells : Bool) (file : JournalFile) (a b : JournalTold)
     → HasTouched tells ManifestA a b → HasTouchedBoth tells file a b
@@ -115,20 +94,33 @@ touched_manifest tells file a b one = record {
   keeps = one.keeps;
 }
 
--- the manifest alone, and then both
+-- the other file alone
+pub touched_file : (tells : Bool) (file : JournalFile) (a b : JournalTold)
+    → HasTouched tells file a b → HasTouchedBoth tells file a b
+touched_file tells file a b one = record {
+  later = one.later;
+  reads = λ other record_differs log_differs. one.reads other log_differs;
+  images = λ told t image le left.
+      let first = one.images told t image le left in
+      (first.0, first.1, λ other record_differs log_differs. first.2 other log_differs);
+  since = one.since;
+  keeps = one.keeps;
+}
+
+-- both, and then both
 pub touched_on_both : (tells : Bool) (file : JournalFile) (a b c : JournalTold)
-    → HasTouched tells ManifestA a b → HasTouchedBoth tells file b c → HasTouchedBoth tells file a c
+    → HasTouchedBoth tells file a b → HasTouchedBoth tells file b c → HasTouchedBoth tells file a c
 touched_on_both tells file a b c one two = record {
   later = omega (arith, one.later, two.later);
   reads = λ other record_differs log_differs. two.reads other record_differs log_differs
-      ∙ one.reads other record_differs;
+      ∙ one.reads other record_differs log_differs;
   images = λ told t image le left.
       let mid = two.images told t image (omega (arith, le, one.later)) left in
       let first = one.images told t mid.0 le mid.1 in (
         first.0,
         first.1,
         λ other record_differs log_differs. mid.2 other record_differs log_differs
-            ∙ first.2 other record_differs,
+            ∙ first.2 other record_differs log_differs,
       );
   since = λ t s image low le left.
       elim (two.since t s image low (omega (arith, le, one.later)) left) [

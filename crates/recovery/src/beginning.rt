@@ -13,10 +13,10 @@ ghost use Rattle.flsm_core.specs.Place.{Start, opened};
 ghost use Rattle.flsm_core.specs.Standing.{IsAt};
 ghost use Rattle.flsm_core.specs.State.{state_session, state_journal, state_file};
 ghost use Rattle.flsm_core.specs.Touched.{HasTouched};
-ghost use Rattle.recovery.specs.Looking.{Stored, HasLooked};
-ghost use Rattle.recovery.specs.Opening.{IsReplayOf, HasRead};
+ghost use Rattle.recovery.specs.Looking.{Stored, HasLooked, stored_of, HasRead, HasRecorded};
+ghost use Rattle.recovery.specs.Opening.{IsReplayOf};
 ghost use Rattle.recovery.specs.Record.{RecordingCause};
-ghost use Rattle.recovery.specs.Session.{creation_fault, journal_of, IsBeginning, HasTouchedBoth};
+ghost use Rattle.recovery.specs.Session.{creation_fault, journal_of, IsNextHeader, IsBeginning, HasTouchedBoth};
 ghost use Rattle.recovery.specs.declared.open_fault.OpenFault.TheVariants as opens;
 
 use crate::logs_read::LogsRead;
@@ -58,9 +58,9 @@ fn begin_log<J: Journal>(
     requires within { replay.last < header.session * 2 ^ 40 }
     // what it gives
     ensures stands { IfOk result (λ state. (start : Start) (logs : List Held)
-        → header.profile ≡ start.profile → IsReplayOf replay start.base
-        → header.number ≡ suc (length logs) → HasRead J.Journal journal start logs
-        → IsAt J.Journal state (opened start)) }
+        → IsNextHeader start header → IsReplayOf replay start.base
+        → HasRecorded J.Journal journal start logs header.number
+        → IsAt J.Journal state (opened start header.number)) }
     ensures session { IfOk result (λ state. state_session state ≡ header.session) }
     ensures file { IfOk result (λ state. state_file state ≡ Log header.number) }
     // when it fails
@@ -107,9 +107,10 @@ pub fn begin_session<J: Journal>(
     requires looked { (stored : Stored) × HasLooked J.Journal journal profile looked stored }
     // what it gives
     ensures stands { IfOk result (λ state. (start : Start) (logs : List Held)
-        → start.profile ≡ profile → IsReplayOf looked.read.replay start.base
-        → looked.read.next ≡ suc (length logs) → HasRead J.Journal journal start logs
-        → IsAt J.Journal state (opened start)) }
+        → start.profile ≡ profile
+        → HasLooked J.Journal journal profile looked (stored_of start logs)
+        → HasRead J.Journal journal start logs
+        → IsAt J.Journal state (opened start looked.read.next)) }
     ensures session { IfOk result (λ state. state_session state
         ≡ looked.recorded.shape.session + 1) }
     ensures file { IfOk result (λ state. state_file state ≡ Log looked.read.next) }

@@ -15,7 +15,6 @@ ghost use Rattle.recovery.specs.Opening.{HasWatched};
 ghost use Rattle.recovery.specs.Record.{HoldsRecord, MisfitCause, FoldCause, RecordCause, IsReadyRecord, record_fault};
 ghost use Rattle.recovery.specs.declared.open_fault.OpenFault.TheVariants as opens;
 
-use crate::found::LAST_SESSION;
 use crate::open_fault::OpenFault;
 use crate::syncing::sync_file;
 use disk_model::{Journal, JournalFile};
@@ -24,6 +23,9 @@ use manifest::{Manifest, ManifestFront};
 use peb_base::{FileName, LimitKind, Options, Profile};
 use record_log::LogFault;
 use std::alloc::Global;
+
+/// The greatest session that an opening may have.
+const LAST_SESSION: u64 = 8_388_607;
 
 /// What the manifest tells: what its edits leave, and the manifest, ready for the next one.
 #[derive(Drop)]

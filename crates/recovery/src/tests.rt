@@ -1,17 +1,34 @@
 //! Openings over devices in memory.
+ghost use Rattle.std.specs.Prelude.{◌≤◌};
 ghost use Rattle.flsm_core.specs.Place.{Place};
 
-use crate::{OpenFault, open, read_record, record_opening};
+use crate::{OpenFault, open};
 use disk_model::{Devices, FailPlan, JournalFile, MemDevices, Pick, Plans};
 use flsm_core::Store;
 use peb_base::{FileName, Key, LimitKind, Number, Profile, Value};
 use std::alloc::Global;
 use std::test::Fail;
 
-/// The manifest of a store in the small profile that was opened once.
-const MANIFEST: [u8; 51] = [
+/// The manifest of a store in the small profile that was opened once, with log 1.
+pub const MANIFEST: [u8; 51] = [
     1, b'F', b'L', b'S', b'M', b'M', 1, 1, 0, 0, 0, 0, 0, 0, 0, 1, 0, 0, 0, 0, 0, 0, 0, 0, 1, 0, 0,
     0, 21, 0, 0, 0, 17, 1, 0, 0, 0, 0, 0, 0, 0, 1, 0, 0, 0, 0, 0, 0, 0, 1, 0,
+];
+
+/// Its log, where `a` was put with the value `1`: a group of one record, the batch of 1.1.
+const PUT: [u8; 53] = [
+    1, b'F', b'L', b'S', b'M', b'L', 1, 1, 0, 0, 0, 0, 0, 0, 0, 1, 0, 0, 0, 0, 0, 0, 0, 1, 1, 0, 0,
+    0, 23, 0, 0, 0, 19, 0, 0, 1, 0, 0, 0, 0, 1, 0, 1, 1, 0, 1, b'a', 0, 0, 0, 1, b'1', 0,
+];
+
+/// The opening of session 2 with log 2, as a group of the manifest, and the closed gate behind it.
+const SECOND: [u8; 27] = [
+    1, 0, 0, 0, 21, 0, 0, 0, 17, 1, 0, 0, 0, 0, 0, 0, 0, 2, 0, 0, 0, 0, 0, 0, 0, 2, 0,
+];
+
+/// The log of session 2, where nothing was put.
+const LOG: [u8; 25] = [
+    1, b'F', b'L', b'S', b'M', b'L', 1, 1, 0, 0, 0, 0, 0, 0, 0, 2, 0, 0, 0, 0, 0, 0, 0, 2, 0,
 ];
 
 /// A put on a store that stands somewhere, and then does so again.
@@ -20,6 +37,24 @@ fn put<S: Store>(store: &mut S, alloc: Global, key: &[u8], value: &[u8]) -> Resu
     ensures { (p : Place) × S.stands store.new p }
 {
     Ok(store.put(Key::new(alloc, key)?, Value::new(alloc, value)?)?)
+}
+
+#[test]
+fn an_opening_and_a_put_leave_the_manifest_and_a_log(rt: HostRuntime) -> Result<(), Fail> {
+    let alloc = rt.alloc();
+    let mut devices = MemDevices::new(alloc, Plans::empty(alloc))?;
+    let Ok(mut first) = open(alloc, devices.journal()?, Profile::Small) else {
+        return Err("not opened".into());
+    };
+    assert_eq!(rt; first.last(), Number::of_packed(0));
+    assert_eq!(rt; put(&mut first, alloc, b"a", b"1")?, Number::new(1, 1));
+    assert_eq!(rt; first.sync()?, Number::new(1, 1));
+    devices.back(first.close());
+    let manifest = devices.bytes_of(JournalFile::ManifestA).ok_or("none")?;
+    assert_eq!(rt; manifest, MANIFEST.as_slice());
+    let log = devices.bytes_of(JournalFile::Log(1)).ok_or("no log")?;
+    assert_eq!(rt; log, PUT.as_slice());
+    Ok(())
 }
 
 #[test]
@@ -44,165 +79,203 @@ fn a_later_opening_reads_what_was_synced_and_numbers_go_on(rt: HostRuntime) -> R
     Ok(())
 }
 
-/// The session of the record that is read over devices, or why none is.
-fn session_over(alloc: Global, devices: &mut MemDevices) -> Result<Result<u64, OpenFault>, Fail> {
-    let mut journal = devices.journal()?;
-    let read = match read_record(alloc, &mut journal, Profile::Small) {
-        Ok(recorded) => Ok(recorded.shape.session),
-        Err(fault) => Err(fault),
-    };
-    devices.back(journal);
-    Ok(read)
+/// The files of a store that was opened so often, where `a` was put in the first session.
+fn store(alloc: Global, plans: Plans, openings: u64) -> Result<MemDevices, Fail> {
+    let devices = MemDevices::new(alloc, plans)?;
+    if openings == 0 {
+        return Ok(devices);
+    }
+    let devices = devices.with_file(JournalFile::Log(1), &PUT)?;
+    if openings == 1 {
+        return Ok(devices.with_file(JournalFile::ManifestA, &MANIFEST)?);
+    }
+    let mut manifest = MANIFEST[..50].to_vec(alloc)?;
+    manifest.extend_from_slice(&SECOND)?;
+    let devices = devices.with_file(JournalFile::ManifestA, &manifest)?;
+    Ok(devices.with_file(JournalFile::Log(2), &LOG)?)
 }
 
-/// Reads the record over devices and records the next opening with this log, and gives whether both
-/// went well.
-fn records(alloc: Global, devices: &mut MemDevices, log: u64) -> Result<bool, Fail> {
-    let mut journal = devices.journal()?;
-    let recorded = match read_record(alloc, &mut journal, Profile::Small) {
-        Ok(recorded) => recorded,
-        Err(_) => {
+/// Opens the store, and gives whether that went well, or why not.
+fn try_open(alloc: Global, devices: &mut MemDevices) -> Result<Option<OpenFault>, Fail> {
+    match open(alloc, devices.journal()?, Profile::Small) {
+        Ok(state) => {
+            devices.back(state.close());
+            Ok(None)
+        }
+        Err((fault, journal)) => {
             devices.back(journal);
-            return Ok(false);
+            Ok(Some(fault))
         }
+    }
+}
+
+/// Whether an open gate stands at this place.
+fn is_open(bytes: &[u8], place: usize) -> bool {
+    place < bytes.len() && bytes[place] == 1
+}
+
+/// How many openings a manifest has, up to three: a group of 26 bytes for each, behind an open gate.
+fn openings_of(devices: &MemDevices) -> u64
+    ensures { result ≤ 3 }
+{
+    let Some(bytes) = devices.bytes_of(JournalFile::ManifestA) else {
+        return 0;
     };
-    let done = record_opening(alloc, &mut journal, Profile::Small, recorded, log).is_ok();
-    devices.back(journal);
-    Ok(done)
-}
-
-#[test]
-fn the_first_opening_makes_the_manifest_and_the_second_adds_to_it(
-    rt: HostRuntime,
-) -> Result<(), Fail> {
-    let alloc = rt.alloc();
-    let mut devices = MemDevices::new(alloc, Plans::empty(alloc))?;
-    assert_eq!(rt; session_over(alloc, &mut devices)?, Ok(0));
-    assert!(rt; records(alloc, &mut devices, 1)?);
-    let bytes = devices
-        .bytes_of(JournalFile::ManifestA)
-        .ok_or("no manifest")?;
-    assert_eq!(rt; bytes, MANIFEST.as_slice());
-    assert_eq!(rt; session_over(alloc, &mut devices)?, Ok(1));
-    assert!(rt; records(alloc, &mut devices, 2)?);
-    assert_eq!(rt; session_over(alloc, &mut devices)?, Ok(2));
-    let bytes = devices
-        .bytes_of(JournalFile::ManifestA)
-        .ok_or("no manifest")?;
-    assert_eq!(rt; bytes.len(), 77);
-    Ok(())
-}
-
-/// What is read of a manifest of one opening with other bytes at these places.
-fn read_with(alloc: Global, changes: &[(usize, u8)]) -> Result<Result<u64, OpenFault>, Fail> {
-    let mut bytes = MANIFEST;
-    for (place, byte) in changes {
-        if *place < bytes.len() {
-            bytes[*place] = *byte;
-        }
+    if !is_open(bytes, 0) || !is_open(bytes, 24) {
+        return 0;
     }
-    let devices = MemDevices::new(alloc, Plans::empty(alloc))?;
-    let mut devices = devices.with_file(JournalFile::ManifestA, &bytes)?;
-    session_over(alloc, &mut devices)
-}
-
-#[test]
-fn a_record_that_is_refused_has_its_cause(rt: HostRuntime) -> Result<(), Fail> {
-    let alloc = rt.alloc();
-    let last = [(39, 0x7f), (40, 0xff), (41, 0xff)];
-    let limit = OpenFault::Limit(LimitKind::Openings, 8_388_607);
-    let profile = OpenFault::Profile(Profile::Normal, Profile::Small);
-    // A gate of the file that isn't open; the profile; the last session there is, and the one
-    // before; a session of 0, a first log of 0, and one past the session's; a group of no edit.
-    assert_eq!(rt; read_with(alloc, &[(0, 0)])?, Ok(0));
-    assert_eq!(rt; read_with(alloc, &[(7, 0)])?, Err(profile));
-    assert_eq!(rt; read_with(alloc, &last)?, Err(limit));
-    assert_eq!(rt;
-        read_with(alloc, &[last[0], last[1], (41, 0xfe)])?,
-        Ok(8_388_606)
-    );
-    for changes in [(41, 0), (49, 0), (49, 2), (33, 9)] {
-        let damaged = OpenFault::Damaged(FileName::ManifestA, 24);
-        assert_eq!(rt; read_with(alloc, &[changes])?, Err(damaged));
+    if !is_open(bytes, 50) {
+        return 1;
     }
-    Ok(())
-}
-
-#[test]
-fn an_edit_that_does_not_fit_is_told_at_its_gate(rt: HostRuntime) -> Result<(), Fail> {
-    let alloc = rt.alloc();
-    // The same opening twice, in the profile that wasn't asked for.
-    let mut bytes = MANIFEST.to_vec(alloc)?;
-    bytes[7] = 0;
-    bytes[50] = 1;
-    bytes.extend_from_slice(&MANIFEST[25..])?;
-    let devices = MemDevices::new(alloc, Plans::empty(alloc))?;
-    let mut devices = devices.with_file(JournalFile::ManifestA, &bytes)?;
-    let damaged = OpenFault::Damaged(FileName::ManifestA, 50);
-    assert_eq!(rt; session_over(alloc, &mut devices)?, Err(damaged));
-    Ok(())
-}
-
-/// What is read of a manifest with these bytes.
-fn session_in(alloc: Global, bytes: &[u8]) -> Result<Result<u64, OpenFault>, Fail> {
-    let devices = MemDevices::new(alloc, Plans::empty(alloc))?;
-    let mut devices = devices.with_file(JournalFile::ManifestA, bytes)?;
-    session_over(alloc, &mut devices)
-}
-
-#[test]
-fn of_two_damages_of_a_record_the_first_is_told(rt: HostRuntime) -> Result<(), Fail> {
-    let alloc = rt.alloc();
-    // The openings of the sessions 1, 2 and 3, at 24, 50 and 76.
-    let mut bytes = MANIFEST[..50].to_vec(alloc)?;
-    bytes.extend_from_slice(&MANIFEST[24..50])?;
-    bytes.extend_from_slice(&MANIFEST[24..])?;
-    bytes[67] = 2;
-    bytes[93] = 3;
-    assert_eq!(rt; session_in(alloc, &bytes)?, Ok(3));
-    // The third is no group, then the second is session 1 again, then the first no edit.
-    for (at, value, place) in [(80, 20, 76), (67, 1, 50), (33, 9, 24)] {
-        bytes[at] = value;
-        let damaged = OpenFault::Damaged(FileName::ManifestA, place);
-        assert_eq!(rt; session_in(alloc, &bytes)?, Err(damaged));
+    if !is_open(bytes, 76) {
+        return 2;
     }
-    Ok(())
+    3
 }
 
-/// Whether reading and recording went well where this call of the journal fails, and what is read
-/// after a crash.
+/// Opens the store again and puts: the number of the put, and whether `a` has its value.
+fn reopen(alloc: Global, devices: &mut MemDevices) -> Result<(Number, bool), Fail> {
+    let Ok(mut state) = open(alloc, devices.journal()?, Profile::Small) else {
+        return Err("not opened again".into());
+    };
+    let number = put(&mut state, alloc, b"b", b"")?;
+    let kept = state.get(b"a") == Some(b"1".as_slice());
+    devices.back(state.close());
+    Ok((number, kept))
+}
+
+/// What came of an opening of such a store where this call of the journal fails; and after a crash,
+/// how many openings are recorded, and what opening again gives.
 fn fail_and_crash(
     alloc: Global,
+    openings: u64,
     call: u64,
     pick: Pick,
-) -> Result<(bool, Result<u64, OpenFault>), Fail> {
+) -> Result<(Option<OpenFault>, u64, (Number, bool)), Fail> {
     let mut plans = Plans::empty(alloc);
     plans.journal = FailPlan {
         calls: vec![in alloc; call]?,
         from: None,
     };
-    let mut devices = MemDevices::new(alloc, plans)?;
-    let done = records(alloc, &mut devices, 1)?;
+    let mut devices = store(alloc, plans, openings)?;
+    let fault = try_open(alloc, &mut devices)?;
     let mut devices = devices.crash(pick)?;
-    Ok((done, session_over(alloc, &mut devices)?))
+    let recorded = openings_of(&devices);
+    Ok((fault, recorded, reopen(alloc, &mut devices)?))
+}
+
+/// Whether a store that was opened so often stays, whichever call of the next opening fails: what
+/// was put is kept, and the next session is 1 + that of the last recorded opening.
+fn stays(alloc: Global, openings: u64) -> Result<bool, Fail>
+    requires { openings ≤ 2 }
+{
+    for call in 1..64 {
+        let mut opened = false;
+        for pick in [Pick::Old, Pick::New, Pick::Seeded(call)] {
+            let (fault, recorded, again) = fail_and_crash(alloc, openings, call, pick)?;
+            if recorded > 3 {
+                return Ok(false);
+            }
+            if again != (Number::new(recorded as u32 + 1, 1), openings > 0) {
+                return Ok(false);
+            }
+            match fault {
+                None if recorded == openings + 1 => opened = true,
+                Some(OpenFault::Journal) if recorded == openings || recorded == openings + 1 => {}
+                _ => return Ok(false),
+            }
+        }
+        if opened {
+            return Ok(call > 1);
+        }
+    }
+    Ok(false)
 }
 
 #[test]
-fn a_crash_leaves_the_record_or_that_and_the_opening(rt: HostRuntime) -> Result<(), Fail> {
-    let alloc = rt.alloc();
-    let mut kept = false;
-    for call in 1..64 {
-        for pick in [Pick::Old, Pick::New, Pick::Seeded(call)] {
-            match fail_and_crash(alloc, call, pick)? {
-                (true, Ok(1)) => {
-                    assert!(rt; kept);
-                    return Ok(());
-                }
-                (false, Ok(0)) => {}
-                (false, Ok(1)) => kept = true,
-                _ => return Err("a record is wrong".into()),
-            }
-        }
+fn a_first_opening_that_fails_at_any_call_leaves_nothing(rt: HostRuntime) -> Result<(), Fail> {
+    assert!(rt; stays(rt.alloc(), 0)?);
+    Ok(())
+}
+
+#[test]
+fn a_second_opening_that_fails_at_any_call_leaves_the_store(rt: HostRuntime) -> Result<(), Fail> {
+    assert!(rt; stays(rt.alloc(), 1)?);
+    Ok(())
+}
+
+#[test]
+fn a_third_opening_that_fails_at_any_call_leaves_the_store(rt: HostRuntime) -> Result<(), Fail> {
+    assert!(rt; stays(rt.alloc(), 2)?);
+    Ok(())
+}
+
+/// Why a store with this manifest and this log 1 isn't opened, where neither changes and no log 2
+/// comes.
+fn refused(alloc: Global, manifest: Option<&[u8]>, log: &[u8]) -> Result<Option<OpenFault>, Fail> {
+    let devices = MemDevices::new(alloc, Plans::empty(alloc))?;
+    let mut devices = devices.with_file(JournalFile::Log(1), log)?;
+    if let Some(bytes) = manifest {
+        devices = devices.with_file(JournalFile::ManifestA, bytes)?;
     }
-    Err("no opening without a fault".into())
+    let fault = try_open(alloc, &mut devices)?;
+    let same = devices.bytes_of(JournalFile::ManifestA) == manifest
+        && devices.bytes_of(JournalFile::Log(1)) == Some(log)
+        && devices.bytes_of(JournalFile::Log(2)).is_none();
+    if !same {
+        return Err("a file changed".into());
+    }
+    Ok(fault)
+}
+
+#[test]
+fn a_store_without_a_manifest_is_refused(rt: HostRuntime) -> Result<(), Fail> {
+    let damaged = OpenFault::Damaged(FileName::Log(1), 0);
+    assert_eq!(rt; refused(rt.alloc(), None, &PUT)?, Some(damaged));
+    Ok(())
+}
+
+#[test]
+fn a_log_that_the_record_does_not_have_is_refused(rt: HostRuntime) -> Result<(), Fail> {
+    let alloc = rt.alloc();
+    let damaged = OpenFault::Damaged(FileName::Log(1), 0);
+    let mut log = PUT;
+    log[7] = 0;
+    assert_eq!(rt; refused(alloc, Some(&MANIFEST), &log)?, Some(damaged));
+    let mut log = PUT;
+    log[23] = 2;
+    assert_eq!(rt; refused(alloc, Some(&MANIFEST), &log)?, Some(damaged));
+    // A number of another session than the header's, told at its group's gate.
+    let mut log = PUT;
+    log[35] = 2;
+    let damaged = OpenFault::Damaged(FileName::Log(1), 24);
+    assert_eq!(rt; refused(alloc, Some(&MANIFEST), &log)?, Some(damaged));
+    Ok(())
+}
+
+#[test]
+fn a_record_is_refused_before_its_logs_are(rt: HostRuntime) -> Result<(), Fail> {
+    let alloc = rt.alloc();
+    // The log is damaged each time, and not looked at: the last session there is, another profile,
+    // and both; an edit that doesn't fit, and a gate that isn't open.
+    let mut log = PUT;
+    log[1] = 0;
+    let limit = OpenFault::Limit(LimitKind::Openings, 8_388_607);
+    let profile = OpenFault::Profile(Profile::Normal, Profile::Small);
+    let mut manifest = MANIFEST;
+    manifest[39] = 0x7f;
+    manifest[40] = 0xff;
+    manifest[41] = 0xff;
+    assert_eq!(rt; refused(alloc, Some(&manifest), &log)?, Some(limit));
+    manifest[7] = 0;
+    assert_eq!(rt; refused(alloc, Some(&manifest), &log)?, Some(profile));
+    let mut manifest = MANIFEST;
+    manifest[49] = 2;
+    let damaged = OpenFault::Damaged(FileName::ManifestA, 24);
+    assert_eq!(rt; refused(alloc, Some(&manifest), &log)?, Some(damaged));
+    assert_eq!(rt;
+        refused(alloc, Some(&MANIFEST), &log)?,
+        Some(OpenFault::Damaged(FileName::Log(1), 0))
+    );
+    Ok(())
 }

@@ -1,6 +1,5 @@
 pub mod Examples
 pub mod Fronts
-pub mod ImageSteps
 pub mod LogFacts
 pub mod LogLaws
 pub mod Logs

@@ -1,26 +1,12 @@
 -- Logs one after another in an image, and what a step of one file does to them.
 use Rattle.std.specs.Prelude.{◌≡◌, ◌≢◌, ℕ, suc, ◌+◌, ◌<◌, ◌≤◌, List, [], ◌∷◌, ◌++◌, length, None}
-use Rattle.std.proofs.Common.{sym, ap, ◌∙◌, subst, arith, inl, inr}
+use Rattle.std.proofs.Common.{sym, ◌∙◌, subst, arith, inl, inr}
 use Rattle.std.proofs.lemmas.Bool.{cases_lt}
 use Rattle.disk_model.specs.declared.journal_file.JournalFile.TheVariants.{Log}
 use Rattle.disk_model.specs.Images.{Image}
 use Rattle.record_log.specs.Log.{IsLog, IsUnfinished}
-use Rattle.peb_base.specs.declared.profile.Profile.{Profile}
-use Rattle.record_log.specs.declared.header.Header.{Header}
-use Rattle.store_layout.specs.Logs.{Held, AreOf, HoldsLogs, BeginsLogs}
+use Rattle.store_layout.specs.Logs.{Held, HoldsLogs, BeginsLogs}
 use Rattle.store_layout.specs.LogFacts.{Finished}
-
--- one log more of the profile
-pub of_push : (profile : Profile) (logs : List Held) (log : Held) → AreOf profile logs
-    → log.header.profile ≡ profile → AreOf profile (logs ++ log ∷ [])
-of_push profile [] log all is = (is, tt)
-of_push profile (x ∷ logs) log all is = (all.0, of_push profile logs log all.1 is)
-
--- another log with the header of the last
-pub of_last : (profile : Profile) (logs : List Held) (log log' : Held) → log'.header ≡ log.header
-    → AreOf profile (logs ++ log ∷ []) → AreOf profile (logs ++ log' ∷ [])
-of_last profile [] log log' same all = (ap (λ (h : Header). h.profile) same ∙ all.0, tt)
-of_last profile (x ∷ logs) log log' same all = (all.0, of_last profile logs log log' same all.1)
 
 log_number : (m n : ℕ) → Log m ≡ Log n → m ≡ n
 log_number m n e = cc

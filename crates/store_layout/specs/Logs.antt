@@ -1,10 +1,9 @@
 -- The logs of an image, and the batches that they spell.
-use Rattle.std.specs.Prelude.{◌≡◌, ℕ, suc, ◌<◌, max, true, List, [], ◌∷◌, ◌++◌, map, length, None, refl}
+use Rattle.std.specs.Prelude.{◌≡◌, ℕ, suc, List, [], ◌∷◌, ◌++◌, map, refl}
 use Rattle.std.specs.List.{AllByRecursion}
 use Rattle.peb_base.specs.declared.op.Op.{Op}
-use Rattle.peb_base.specs.declared.profile.Profile.{Profile}
 use Rattle.peb_base.specs.Numbers.{session_of}
-use Rattle.peb_base.specs.Batches.{Batches, are_in_order}
+use Rattle.peb_base.specs.Batches.{Batches}
 use Rattle.disk_model.specs.declared.journal_file.JournalFile.TheVariants.{Log}
 use Rattle.disk_model.specs.Images.{Image}
 use Rattle.record_log.specs.declared.header.Header.{Header}
@@ -61,32 +60,3 @@ SpellsAll [] batches = batches ≡ []
 SpellsAll (log ∷ logs) batches =
     (own : Batches) × (rest : Batches) × (batches ≡ own ++ rest) × Spells log own
     × SpellsAll logs rest
-
--- the logs have this profile
-abbrev pub AreOf : Profile → List Held → Type 0
-AreOf profile logs = AllByRecursion (λ (log : Held). log.header.profile ≡ profile) logs
-
--- what is read of an image: the logs from 1 on up to the first absent one, all of this profile,
--- which spell these batches, in order
-pub record Reads (profile : Profile) (image : Image) (logs : List Held)
-    (batches : Batches) : Type 0 where
-  pub holds : HoldsLogs 1 logs image
-  pub same : AreOf profile logs
-  pub spelled : SpellsAll logs batches
-  pub ordered : are_in_order batches ≡ true
-
--- these batches are read of the image
-abbrev pub ReadsAs : Profile → Batches → Image → Type 0
-ReadsAs profile batches image = (logs : List Held) × Reads profile image logs batches
-
--- the image stands for these batches in a profile: they are read, and no log above the first absent
--- one has a file
-pub record Stands (profile : Profile) (batches : Batches) (image : Image) : Type 0 where
-  pub logs : List Held
-  pub reads : Reads profile image logs batches
-  pub none_above : (m : ℕ) → suc (length logs) < m → image (Log m) ≡ None
-
--- the greatest session of logs, or 0
-abbrev pub greatest_session : List Held → ℕ
-greatest_session [] = 0
-greatest_session (log ∷ logs) = max log.header.session (greatest_session logs)

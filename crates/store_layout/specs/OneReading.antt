@@ -3,12 +3,11 @@ use Rattle.std.specs.Prelude.{◌≡◌, ℕ, suc, ◌+◌, List, [], ◌∷◌,
 use Rattle.std.specs.List.{AllByRecursion}
 use Rattle.std.proofs.Common.{sym, ap, ◌∙◌, subst, arith, append_assoc}
 use Rattle.std.proofs.lemmas.List.{append-nil}
-use Rattle.peb_base.specs.declared.profile.Profile.{Profile}
 use Rattle.peb_base.specs.Batches.{Batches}
 use Rattle.disk_model.specs.declared.journal_file.JournalFile.TheVariants.{Log}
 use Rattle.disk_model.specs.Images.{Image}
 use Rattle.record_log.specs.Log.{IsUnfinished}
-use Rattle.store_layout.specs.Logs.{Held, flat, record_of, record_of-is, HoldsLogs, BeginsLogs, AreRecords, IsBatchIn, SpellsAll, Reads}
+use Rattle.store_layout.specs.Logs.{Held, flat, record_of, record_of-is, HoldsLogs, BeginsLogs, AreRecords, IsBatchIn, SpellsAll}
 use Rattle.store_layout.specs.LogFacts.{OneLog, Finished, OneBatch}
 
 -- the same records are those of the same batches, one after another
@@ -91,11 +90,6 @@ spells_one one (log ∷ logs) a b (own, rest, is, these, more) (own', rest', is'
     is ∙ ap (λ r. r ++ rest) first
     ∙ ap (λ r. own' ++ r) (spells_one one logs rest rest' more more') ∙ sym is'
 
--- the same logs and the same batches
-pub record SameReading (a b : List Held) (x y : Batches) : Type 0 where
-  pub logs : a ≡ b
-  pub batches : x ≡ y
-
 -- the logs of an image from a number on are one list
 pub same_logs : Finished → OneLog → (n : ℕ) (image : Image) (a b : List Held)
     → HoldsLogs n a image → HoldsLogs n b image → a ≡ b
@@ -120,15 +114,3 @@ same_logs fin one n image a b ha hb =
     ends k [] absent holds = refl
     ends k (l ∷ more) absent holds =
         absurd (fin (Log k) (image (Log k)) l.header l.groups holds.0 absent)
-
--- an image is read in one way
-pub one_reading : Finished → OneLog → OneBatch
-    → (profile other : Profile) (image : Image) (a b : List Held) (x y : Batches)
-    → Reads profile image a x → Reads other image b y → SameReading a b x y
-one_reading fin one batch profile other image a b x y ra rb =
-    let logs : a ≡ b = same_logs fin one 1 image a b ra.holds rb.holds in
-    record {
-      logs = logs;
-      batches =
-          spells_one batch a x y ra.spelled (subst (λ l. SpellsAll l y) (sym logs) rb.spelled);
-    }

@@ -1,5 +1,5 @@
 -- What an image of a store has by its record: the logs that the record asks for, and their batches.
-use Rattle.std.specs.Prelude.{◌≡◌, ◌≢◌, ◌⊎◌, ℕ, ◌+◌, ◌<◌, ◌≤◌, true, List, [], length, Option, None}
+use Rattle.std.specs.Prelude.{◌≡◌, ◌≢◌, ◌⊎◌, ℕ, ◌+◌, ◌<◌, ◌≤◌, true, List, [], ◌∷◌, ◌++◌, length, Option, None}
 use Rattle.std.specs.List.{AllByRecursion}
 use Rattle.peb_base.specs.declared.profile.Profile.{Profile}
 use Rattle.peb_base.specs.Profiles.{column}
@@ -97,6 +97,12 @@ pub record ReadsBy (profile : Profile) (edits : Record) (image : Image) (logs : 
   pub legal : is_legal_record (column profile) edits ≡ true
   pub read : ReadsFrom (bounds_of profile edits) image logs batches
 
+-- the same record, the same logs and the same batches
+pub record SameStore (d e : Record) (a b : List Held) (x y : Batches) : Type 0 where
+  pub edits : d ≡ e
+  pub logs : a ≡ b
+  pub batches : x ≡ y
+
 -- ---- the whole image
 
 -- beside the logs that are read, from the first one on, the image has those from the oldest on up to
@@ -108,13 +114,24 @@ pub record Lies (first oldest : ℕ) (logs : List Held) (image : Image) : Type 0
   pub older : (m : ℕ) → oldest ≤ m → m < first → image (Log m) ≢ None
   pub none_above : (m : ℕ) → first + length logs < m → image (Log m) ≡ None
 
--- The image stands for these batches, each within its limits, and for this record in a profile: the
--- record is read and is of openings alone, the logs spell the batches, and there is no other log.
-pub record StandsFor (profile : Profile) (batches : Batches) (edits : Record)
+-- The image stands for these batches, each within its limits, and for this record in a profile, by
+-- these logs: the record is read and is of openings alone, the logs spell the batches, and there is
+-- no other log.
+pub record StandsBy (profile : Profile) (batches : Batches) (edits : Record) (logs : List Held)
     (image : Image) : Type 0 where
   pub openings : AreOpenings edits
   pub each : AllByRecursion (λ b. IsBatch b.0 b.1) batches
-  pub logs : List Held
   pub reads : ReadsBy profile edits image logs batches
   pub oldest : ℕ
   pub lies : Lies (first_log profile edits) oldest logs image
+
+-- the image stands for these batches and this record, by some logs
+pub record StandsFor (profile : Profile) (batches : Batches) (edits : Record)
+    (image : Image) : Type 0 where
+  pub logs : List Held
+  pub by : StandsBy profile batches edits logs image
+
+-- the image stands for the base, and for this record as it was or with its next opening
+abbrev pub StandsBeside : Profile → Batches → Record → ℕ → Image → Type 0
+StandsBeside profile base edits log image = StandsFor profile base edits image
+    ⊎ StandsFor profile base (edits ++ next_opening profile edits log ∷ []) image

@@ -1,12 +1,13 @@
 -- How an image stands for a record, and what an opening makes of it.
-use Rattle.std.specs.Prelude.{◌≡◌, ◌≢◌, ℕ, suc, ◌+◌, ◌-◌, ◌*◌, ◌^◌, ◌<◌, ◌≤◌, true, false, ◌&&◌, Bool, List, [], ◌∷◌, ◌++◌, length, Option, None, refl, nat_lt, nat_le}
+use Rattle.std.specs.Prelude.{◌≡◌, ◌≢◌, ◌⊎◌, ℕ, suc, ◌+◌, ◌-◌, ◌*◌, ◌^◌, ◌≤◌, true, false, ◌&&◌, Bool, List, [], ◌∷◌, ◌++◌, length, Option, refl, nat_lt, nat_le}
 use Rattle.std.specs.List.{AllByRecursion}
 use Rattle.std.proofs.Common.{sym, ap, ◌∙◌, subst, arith, inl, inr, length-append}
 use Rattle.std.proofs.lemmas.Bool.{and_from, and_parts, lt-ltb, le-leb}
 use Rattle.peb_base.specs.declared.profile.Profile.{Profile}
 use Rattle.peb_base.specs.declared.op.Op.{Op}
 use Rattle.peb_base.specs.Profiles.{column, Column}
-use Rattle.peb_base.specs.Batches.{Batches}
+use Rattle.peb_base.specs.Batches.{Batches, are_in_order}
+use Rattle.disk_model.specs.declared.journal_file.JournalFile.{JournalFile}
 use Rattle.disk_model.specs.declared.journal_file.JournalFile.TheVariants.{Log, ManifestA}
 use Rattle.disk_model.specs.Images.{Image, In}
 use Rattle.record_log.specs.declared.header.Header.{Header}
@@ -19,11 +20,11 @@ use Rattle.flsm_model.specs.Fits.{fits, fit_from, is_legal_record}
 use Rattle.flsm_model.specs.Shape.{Record, Shape, empty_shape, shape_after, shape_from, shape_of}
 use Rattle.manifest.specs.Manifests.{IsManifest, manifest_header, edit_groups}
 use Rattle.store_layout.specs.LogFacts.{OneLog, Finished, OneBatch}
-use Rattle.store_layout.specs.LogLaws.{logs_differ, below, above, holds_same, holds_begun, holds_next, holds_end}
-use Rattle.store_layout.specs.Logs.{Held, AreOf, HoldsLogs, SpellsAll, IsBatchIn, Stands}
+use Rattle.store_layout.specs.LogLaws.{logs_differ, below, above, holds_same, holds_changed, holds_begun, holds_next, holds_end}
+use Rattle.store_layout.specs.Logs.{Held, HoldsLogs, SpellsAll, IsBatchIn}
 use Rattle.store_layout.specs.OneReading.{same_logs, spells_one}
 use Rattle.store_layout.specs.SpelledLaws.{fresh, spells_one_more}
-use Rattle.store_layout.specs.Recorded.{HoldsRecord, session_of_record, first_log, IsOpening, AreOpenings, Bounds, bounds_of, IsWithin, AreWithin, ReadsBy, StandsFor}
+use Rattle.store_layout.specs.Recorded.{HoldsRecord, session_of_record, first_log, next_opening, IsOpening, AreOpenings, Bounds, bounds_of, IsWithin, AreWithin, ReadsBy, SameStore, Lies, StandsBy, StandsFor}
 
 -- ---- lists
 
@@ -110,11 +111,12 @@ within_later a b (log ∷ logs) same later all = (
   within_later a b logs same later all.1,
 )
 
--- they have the profile
-pub within_of : (bounds : Bounds) (logs : List Held) → AreWithin bounds logs
-    → AreOf bounds.profile logs
-within_of bounds [] all = tt
-within_of bounds (log ∷ logs) all = (all.0.0, within_of bounds logs all.1)
+-- another log with the header of the last
+within_last : (bounds : Bounds) (logs : List Held) (log log' : Held) → log'.header ≡ log.header
+    → AreWithin bounds (logs ++ log ∷ []) → AreWithin bounds (logs ++ log' ∷ [])
+within_last bounds [] log log' same all = (subst (IsWithin bounds) (sym same) all.0, tt)
+within_last bounds (x ∷ logs) log log' same all =
+    (all.0, within_last bounds logs log log' same all.1)
 
 -- each batch that logs spell is within its limits
 pub spelled_each : (logs : List Held) (batches : Batches) → SpellsAll logs batches
@@ -138,34 +140,49 @@ abbrev pub OneManifest : Type 0
 OneManifest = (found : Option (List ℕ)) (a b : Profile) (first second : Record)
     → IsManifest a first found → IsManifest b second found → (a ≡ b) × (first ≡ second)
 
+-- the same edits, in one profile where there are any
+pub record SameRecord (profile other : Profile) (a b : Record) : Type 0 where
+  pub edits : a ≡ b
+  pub profiles : (profile ≡ other) ⊎ (a ≡ [])
+
 -- a file holds one record
+same_record : Finished → OneManifest → (profile other : Profile) (a b : Record)
+    (found : Option (List ℕ)) → HoldsRecord profile a found → HoldsRecord other b found
+    → SameRecord profile other a b
+same_record fin one profile other a b found (inl x) (inl y) =
+    record { edits = x.1 ∙ sym y.1; profiles = inr x.1 }
+same_record fin one profile other a b found (inl x) (inr y) =
+    absurd (fin ManifestA found (manifest_header other) (edit_groups b) y.log x.0)
+same_record fin one profile other a b found (inr x) (inl y) =
+    absurd (fin ManifestA found (manifest_header profile) (edit_groups a) x.log y.0)
+same_record fin one profile other a b found (inr x) (inr y) =
+    let same = one found profile other a b x y in
+    record { edits = same.1; profiles = inl same.0 }
+
 pub one_record : Finished → OneManifest → (profile : Profile) (a b : Record)
     (found : Option (List ℕ)) → HoldsRecord profile a found → HoldsRecord profile b found → a ≡ b
-one_record fin one profile a b found (inl x) (inl y) = x.1 ∙ sym y.1
-one_record fin one profile a b found (inl x) (inr y) =
-    absurd (fin ManifestA found (manifest_header profile) (edit_groups b) y.log x.0)
-one_record fin one profile a b found (inr x) (inl y) =
-    absurd (fin ManifestA found (manifest_header profile) (edit_groups a) x.log y.0)
-one_record fin one profile a b found (inr x) (inr y) = (one found profile profile a b x y).1
+one_record fin one profile a b found x y =
+    (same_record fin one profile profile a b found x y).edits
 
--- the same record, the same logs and the same batches
-pub record SameStore (d e : Record) (a b : List Held) (x y : Batches) : Type 0 where
-  pub edits : d ≡ e
-  pub logs : a ≡ b
-  pub batches : x ≡ y
+-- so it asks for the same first log
+same_first : (profile other : Profile) (a b : Record) → SameRecord profile other a b
+    → first_log profile a ≡ first_log other b
+same_first profile other a b same = elim same.profiles [
+  | inl is ↦ ap (λ (p : Profile). first_log p a) is ∙ ap (first_log other) same.edits
+  | inr none ↦ ap (first_log profile) none ∙ sym (ap (first_log other) (sym same.edits ∙ none))
+]
 
--- an image is read in one way
+-- an image is read in one way, whatever the profile
 pub one_store : Finished → OneLog → OneBatch → OneManifest
-    → (profile : Profile) (image : Image) (d e : Record) (a b : List Held) (x y : Batches)
-    → ReadsBy profile d image a x → ReadsBy profile e image b y → SameStore d e a b x y
-one_store fin one batch manifest profile image d e a b x y ra rb =
-    let edits : d ≡ e = one_record fin manifest profile d e (image ManifestA) ra.recorded
-    rb.recorded in
-    let there : HoldsLogs (first_log profile e) a image =
-    subst (λ (r : Record). HoldsLogs (first_log profile r) a image) edits ra.read.holds in
-    let logs : a ≡ b = same_logs fin one (first_log profile e) image a b there rb.read.holds in
+    → (profile other : Profile) (image : Image) (d e : Record) (a b : List Held) (x y : Batches)
+    → ReadsBy profile d image a x → ReadsBy other e image b y → SameStore d e a b x y
+one_store fin one batch manifest profile other image d e a b x y ra rb =
+    let same = same_record fin manifest profile other d e (image ManifestA) ra.recorded rb.recorded in
+    let there : HoldsLogs (first_log other e) a image =
+    subst (λ (n : ℕ). HoldsLogs n a image) (same_first profile other d e same) ra.read.holds in
+    let logs : a ≡ b = same_logs fin one (first_log other e) image a b there rb.read.holds in
     record {
-      edits = edits;
+      edits = same.edits;
       logs = logs;
       batches = spells_one batch b x y
           (subst (λ (l : List Held). SpellsAll l x) logs ra.read.spelled) rb.read.spelled;
@@ -173,44 +190,27 @@ one_store fin one batch manifest profile image d e a b x y ra rb =
 
 -- ---- what an image stands for
 
--- it stands for the batches of its logs
-pub stands_logs : (profile : Profile) (batches : Batches) (edits : Record) (image : Image)
-    → StandsFor profile batches edits image → Stands profile batches image
-stands_logs profile batches edits image s =
-    let first : first_log profile edits ≡ 1 = openings_first profile edits s.openings in
-    record {
-      logs = s.logs;
-      reads = record {
-        holds = subst (λ (n : ℕ). HoldsLogs n s.logs image) first s.reads.read.holds;
-        same = within_of (bounds_of profile edits) s.logs s.reads.read.within;
-        spelled = s.reads.read.spelled;
-        ordered = s.reads.read.ordered;
-      };
-      none_above = λ m high. s.lies.none_above m (omega (arith, high, first));
-    }
-
 -- an image with the same logs stands for a later record that it holds
-unfoldable pub stands_recorded : (profile : Profile) (batches : Batches) (old new : Record)
-    (before image : Image) → StandsFor profile batches old before
+pub stands_recorded : (profile : Profile) (batches : Batches) (old new : Record) (logs : List Held)
+    (before image : Image) → StandsBy profile batches old logs before
     → ((m : ℕ) → image (Log m) ≡ before (Log m)) → HoldsRecord profile new (image ManifestA)
     → is_legal_record (column profile) new ≡ true → AreOpenings new
     → session_of_record profile old ≤ session_of_record profile new
-    → StandsFor profile batches new image
-stands_recorded profile batches old new before image s same holds legal openings later =
+    → StandsBy profile batches new logs image
+stands_recorded profile batches old new logs before image s same holds legal openings later =
     let first : first_log profile old ≡ first_log profile new =
     openings_first profile old s.openings ∙ sym (openings_first profile new openings) in
     record {
       openings = openings;
       each = s.each;
-      logs = s.logs;
       reads = record {
         recorded = holds;
         legal = legal;
         read = record {
-          holds = subst (λ (n : ℕ). HoldsLogs n s.logs image) first
-              (holds_same (first_log profile old) s.logs before image (λ m le. same m)
+          holds = subst (λ (n : ℕ). HoldsLogs n logs image) first
+              (holds_same (first_log profile old) logs before image (λ m le. same m)
               s.reads.read.holds);
-          within = within_later (bounds_of profile old) (bounds_of profile new) s.logs refl later
+          within = within_later (bounds_of profile old) (bounds_of profile new) logs refl later
               s.reads.read.within;
           spelled = s.reads.read.spelled;
           ordered = s.reads.read.ordered;
@@ -229,121 +229,158 @@ stands_recorded profile batches old new before image s same holds legal openings
 manifest_no_log : (n : ℕ) → ManifestA ≢ Log n
 manifest_no_log n e = cc
 
--- while its next log is created, the image stands for what it stood for
-pub stands_created : (profile : Profile) (batches : Batches) (edits : Record)
-    (before image : Image) (n : ℕ) (header : Header) → (s : StandsFor profile batches edits before)
-    → first_log profile edits + length s.logs ≡ n → IsWithin (bounds_of profile edits) header
-    → In (Log n) (Creates (Log n) header) before image → StandsFor profile batches edits image
-stands_created profile batches edits before image n header s at within step =
-    elim step.here [
-      | inl stays ↦ same (subst IsUnfinished (sym stays)
-          (holds_end first n s.logs before at s.reads.read.holds))
-      | inr more ↦ elim more [ inl unfinished ↦ same unfinished | inr made ↦ grown made ]
-    ]
-  where
-    first : ℕ
-    first = first_log profile edits
+-- an image that is another one but for the log of a number
+abbrev pub DiffersIn : ℕ → Image → Image → Type 0
+DiffersIn n before image = (other : JournalFile) → other ≢ Log n → image other ≡ before other
 
-    else : (m : ℕ) → m ≢ n → image (Log m) ≡ before (Log m)
-    else m differ = step.elsewhere (Log m) (logs_differ m n differ)
+-- it has the same record
+recorded_beside : (profile : Profile) (edits : Record) (n : ℕ) (before image : Image)
+    → DiffersIn n before image → HoldsRecord profile edits (before ManifestA)
+    → HoldsRecord profile edits (image ManifestA)
+recorded_beside profile edits n before image else holds =
+    subst (HoldsRecord profile edits) (sym (else ManifestA (manifest_no_log n))) holds
 
-    holds : HoldsRecord profile edits (image ManifestA)
-    holds = subst (HoldsRecord profile edits) (sym (step.elsewhere ManifestA (manifest_no_log n)))
-        s.reads.recorded
+-- it has the same logs below that, and none above
+lies_beside : (first oldest n : ℕ) (logs more : List Held) (before image : Image)
+    → DiffersIn n before image → first ≤ n → n ≤ first + length more → length logs ≤ length more
+    → Lies first oldest logs before → Lies first oldest more image
+lies_beside first oldest n logs more before image else from to longer lies = record {
+  some = lies.some;
+  before = lies.before;
+  none_below = λ m low. else (Log m) (logs_differ m n (below m n (omega (arith, low, from, lies.before))))
+      ∙ lies.none_below m low;
+  older = λ m least low is. lies.older m least low
+      (sym (else (Log m) (logs_differ m n (below m n (omega (arith, low, from))))) ∙ is);
+  none_above = λ m high. else (Log m) (logs_differ m n (above m n (omega (arith, high, to))))
+      ∙ lies.none_above m (omega (arith, high, longer));
+}
 
-    older : (m : ℕ) → s.oldest ≤ m → m < first → image (Log m) ≢ None
-    older m from low is =
-        s.lies.older m from low (sym (else m (below m n (omega (arith, low, at)))) ∙ is)
-
-    lower : (m : ℕ) → m < s.oldest → image (Log m) ≡ None
-    lower m low = else m (below m n (omega (arith, low, at, s.lies.before)))
-        ∙ s.lies.none_below m low
-
-    same : IsUnfinished (image (Log n)) → StandsFor profile batches edits image
-    same unfinished = record {
+-- an image in which the last log has other groups stands for the batches that they spell
+pub stands_changed : (profile : Profile) (old new : Batches) (edits : Record) (before image : Image)
+    (n : ℕ) (logs : List Held) (log log' : Held)
+    → StandsBy profile old edits (logs ++ log ∷ []) before → first_log profile edits + length logs ≡ n
+    → log'.header ≡ log.header → DiffersIn n before image
+    → IsLog (Log n) log'.header log'.groups (image (Log n)) → SpellsAll (logs ++ log' ∷ []) new
+    → are_in_order new ≡ true → StandsBy profile new edits (logs ++ log' ∷ []) image
+stands_changed profile old new edits before image n logs log log' s at header else made spells ordered =
+    let first : ℕ = first_log profile edits in
+    let size = length-append logs (log ∷ []) in
+    let size' = length-append logs (log' ∷ []) in
+    record {
       openings = s.openings;
-      each = s.each;
-      logs = s.logs;
+      each = spelled_each (logs ++ log' ∷ []) new spells;
       reads = record {
-        recorded = holds;
+        recorded = recorded_beside profile edits n before image else s.reads.recorded;
         legal = s.reads.legal;
         read = record {
-          holds = holds_begun first n s.logs before image at (λ m le differ. else m differ)
-              unfinished s.reads.read.holds;
-          within = s.reads.read.within;
-          spelled = s.reads.read.spelled;
-          ordered = s.reads.read.ordered;
+          holds = holds_changed first n logs log log' before image at
+              (λ m le differ. else (Log m) (logs_differ m n differ)) made s.reads.read.holds;
+          within = within_last (bounds_of profile edits) logs log log' header s.reads.read.within;
+          spelled = spells;
+          ordered = ordered;
         };
       };
       oldest = s.oldest;
-      lies = record {
-        some = s.lies.some;
-        before = s.lies.before;
-        none_below = lower;
-        older = older;
-        none_above = λ m high. else m (above m n (omega (arith, high, at)))
-            ∙ s.lies.none_above m high;
-      };
+      lies = lies_beside first s.oldest n (logs ++ log ∷ []) (logs ++ log' ∷ []) before image else
+          (omega (arith, at)) (omega (arith, at, size')) (omega (arith, size, size')) s.lies;
     }
 
-    grown : IsLog (Log n) header [] (image (Log n)) → StandsFor profile batches edits image
-    grown made = record {
+-- an image in which the next log was made stands for what it stood for, by one log more
+pub stands_made : (profile : Profile) (batches : Batches) (edits : Record) (logs : List Held)
+    (before image : Image) (n : ℕ) (header : Header) → StandsBy profile batches edits logs before
+    → first_log profile edits + length logs ≡ n → IsWithin (bounds_of profile edits) header
+    → DiffersIn n before image → IsLog (Log n) header [] (image (Log n))
+    → StandsBy profile batches edits (logs ++ fresh header ∷ []) image
+stands_made profile batches edits logs before image n header s at within else made =
+    let first : ℕ = first_log profile edits in
+    let size = length-append logs (fresh header ∷ []) in
+    record {
       openings = s.openings;
       each = s.each;
-      logs = s.logs ++ fresh header ∷ [];
       reads = record {
-        recorded = holds;
+        recorded = recorded_beside profile edits n before image else s.reads.recorded;
         legal = s.reads.legal;
         read = record {
-          holds = holds_next first n s.logs (fresh header) before image at
-              (λ m le differ. else m differ) (s.lies.none_above (suc n) (omega (arith, at))) made
-              s.reads.read.holds;
-          within = all_push (λ (log : Held). IsWithin (bounds_of profile edits) log.header) s.logs
+          holds = holds_next first n logs (fresh header) before image at
+              (λ m le differ. else (Log m) (logs_differ m n differ))
+              (s.lies.none_above (suc n) (omega (arith, at))) made s.reads.read.holds;
+          within = all_push (λ (log : Held). IsWithin (bounds_of profile edits) log.header) logs
               (fresh header) s.reads.read.within within;
-          spelled = spells_one_more s.logs header batches s.reads.read.spelled;
+          spelled = spells_one_more logs header batches s.reads.read.spelled;
           ordered = s.reads.read.ordered;
         };
       };
       oldest = s.oldest;
-      lies = record {
-        some = s.lies.some;
-        before = s.lies.before;
-        none_below = lower;
-        older = older;
-        none_above = λ m high. let size = length-append s.logs (fresh header ∷ []) in
-            else m (above m n (omega (arith, high, at, size)))
-            ∙ s.lies.none_above m (omega (arith, high, size));
-      };
+      lies = lies_beside first s.oldest n logs (logs ++ fresh header ∷ []) before image else
+          (omega (arith, at)) (omega (arith, at, size)) (omega (arith, size)) s.lies;
+    }
+
+-- one in which it was begun stands for it by the same logs
+stands_begun : (profile : Profile) (batches : Batches) (edits : Record) (logs : List Held)
+    (before image : Image) (n : ℕ) → StandsBy profile batches edits logs before
+    → first_log profile edits + length logs ≡ n → DiffersIn n before image
+    → IsUnfinished (image (Log n)) → StandsBy profile batches edits logs image
+stands_begun profile batches edits logs before image n s at else unfinished = record {
+  openings = s.openings;
+  each = s.each;
+  reads = record {
+    recorded = recorded_beside profile edits n before image else s.reads.recorded;
+    legal = s.reads.legal;
+    read = record {
+      holds = holds_begun (first_log profile edits) n logs before image at
+          (λ m le differ. else (Log m) (logs_differ m n differ)) unfinished s.reads.read.holds;
+      within = s.reads.read.within;
+      spelled = s.reads.read.spelled;
+      ordered = s.reads.read.ordered;
+    };
+  };
+  oldest = s.oldest;
+  lies = lies_beside (first_log profile edits) s.oldest n logs logs before image else
+      (omega (arith, at)) (omega (arith, at)) (omega arith) s.lies;
+}
+
+-- while its next log is created, the image stands for what it stood for
+pub stands_created : (profile : Profile) (batches : Batches) (edits : Record) (logs : List Held)
+    (before image : Image) (n : ℕ) (header : Header) → StandsBy profile batches edits logs before
+    → first_log profile edits + length logs ≡ n → IsWithin (bounds_of profile edits) header
+    → In (Log n) (Creates (Log n) header) before image → StandsFor profile batches edits image
+stands_created profile batches edits logs before image n header s at within step =
+    elim step.here [
+      | inl stays ↦ same (subst IsUnfinished (sym stays)
+          (holds_end (first_log profile edits) n logs before at s.reads.read.holds))
+      | inr more ↦ elim more [
+        | inl unfinished ↦ same unfinished
+        | inr made ↦ record {
+          logs = logs ++ fresh header ∷ [];
+          by = stands_made profile batches edits logs before image n header s at within
+              step.elsewhere made;
+        }
+      ]
+    ]
+  where
+    same : IsUnfinished (image (Log n)) → StandsFor profile batches edits image
+    same unfinished = record {
+      logs = logs;
+      by = stands_begun profile batches edits logs before image n s at step.elsewhere unfinished;
     }
 
 -- ---- the next opening
 
--- an image that records the next opening stands for the record as it was, or with the opening
-unfoldable pub stands_opened : (profile : Profile) (batches : Batches) (edits : Record)
-    (before image : Image) (log : ℕ) → StandsFor profile batches edits before
+-- an image that records the next opening stands for the record with the opening, by the same logs
+pub stands_opened : (profile : Profile) (batches : Batches) (edits : Record) (logs : List Held)
+    (before image : Image) (log : ℕ) → StandsBy profile batches edits logs before
     → ((m : ℕ) → image (Log m) ≡ before (Log m))
-    → IsManifest profile (edits ++ Open (session_of_record profile edits + 1) log ∷ [])
-    (image ManifestA) → 1 ≤ log → log ≤ session_of_record profile edits * 2 ^ 41 + 1
-    → StandsFor profile batches (edits ++ Open (session_of_record profile edits + 1) log ∷ []) image
-stands_opened profile batches edits before image log s same holds some room =
+    → IsManifest profile (edits ++ next_opening profile edits log ∷ []) (image ManifestA)
+    → 1 ≤ log → log ≤ session_of_record profile edits * 2 ^ 41 + 1
+    → StandsBy profile batches (edits ++ next_opening profile edits log ∷ []) logs image
+stands_opened profile batches edits logs before image log s same holds some room =
     let session = session_of_record profile edits + 1 in
     let bounds = opened_bounds profile edits session log in
     let now : session_of_record profile (edits ++ Open session log ∷ []) ≡ session =
     ap (λ (b : Bounds). b.session) bounds in
     let first = openings_first profile edits s.openings in
-    stands_recorded profile batches edits (edits ++ Open session log ∷ []) before image s same
+    stands_recorded profile batches edits (edits ++ Open session log ∷ []) logs before image s same
     (inr holds)
     (legal_opening profile edits session log s.reads.legal refl (omega (arith, first, some)) some
     room)
     (all_push IsOpening edits (Open session log) s.openings tt) (omega (arith, now))
-
--- its logs are the same
-pub opened_logs : (profile : Profile) (batches : Batches) (edits : Record)
-    (before image : Image) (log : ℕ) → (s : StandsFor profile batches edits before)
-    → (same : (m : ℕ) → image (Log m) ≡ before (Log m))
-    → (holds : IsManifest profile (edits ++ Open (session_of_record profile edits + 1) log ∷ [])
-    (image ManifestA)) → (some : 1 ≤ log)
-    → (room : log ≤ session_of_record profile edits * 2 ^ 41 + 1)
-    → (stands_opened profile batches edits before image log s same holds some room).logs ≡ s.logs
-unfolding stands_opened stands_recorded
-opened_logs profile batches edits before image log s same holds some room = refl

@@ -1,8 +1,9 @@
-//! Which logs an image of the store has, and which batches they spell.
+//! Which record and which logs an image of the store has, and which batches they spell.
 //!
-//! The layers above may use the definitions in `specs/Logs`, the lemmas beside them (how logs go on,
-//! what they spell together, what a step of one file leaves of them), and the laws that an image is
-//! read in one way. Nothing runs here, and nothing is known of an open store, nor of an opening.
+//! The layers above may use what the logs spell (`specs/Logs`), what an image is read as and stands
+//! for by its record (`specs/Recorded`), the lemmas beside these (how logs go on, what a step of one
+//! file leaves of them), and the laws that an image is read in one way. Nothing runs here, and
+//! nothing is known of an open store, nor of an opening.
 #![tactic(auto)]
 
 mod laws;

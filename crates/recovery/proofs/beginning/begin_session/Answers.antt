@@ -1,4 +1,4 @@
-use Rattle.std.proofs.Common.{◌≡◌, ◌+◌, ◌∷◌, ◌++◌, [], ℕ, IsTrue, List, Option, suc, arith, length, refl, sym, ap, ◌∙◌, subst, inl, inr}
+use Rattle.std.proofs.Common.{◌≡◌, ◌+◌, ◌∷◌, ◌++◌, [], ℕ, IsTrue, sym, ap, ◌∙◌, subst, inl, inr}
 use Rattle.disk_model.specs.declared.journal_file.JournalFile.TheVariants.{Log, ManifestA}
 use Rattle.disk_model.specs.Images.{Image, Follows, In}
 use Rattle.disk_model.specs.Moments.{follows_whole}
@@ -7,37 +7,52 @@ use Rattle.record_log.specs.declared.header.Header.{Header}
 use Rattle.record_log.specs.Crash.{Creates}
 use Rattle.record_log.specs.Header.{log_header}
 use Rattle.flsm_model.specs.declared.edit.Edit.TheVariants.{Open}
-use Rattle.flsm_model.specs.Shape.{Record, Shape}
-use Rattle.manifest.specs.Manifests.{IsManifest, IsReadyManifest}
+use Rattle.flsm_model.specs.Shape.{Shape}
+use Rattle.manifest.specs.Manifests.{IsManifest}
 use Rattle.store_layout.specs.Recorded.{session_of_record, next_opening}
 use Rattle.flsm_core.specs.Touched.{HasTouched, touched_step, leaves_but}
-use Rattle.recovery.specs.Looking.{Stored, HasLooked}
+use Rattle.recovery.specs.Looking.{Stored, HasLooked, HasRecorded, stored_of}
 use Rattle.recovery.specs.Record.{Records}
-use Rattle.recovery.specs.Session.{journal_of, IsRecording, IsBeginning, HasTouchedBoth, touched_both, touched_manifest}
+use Rattle.recovery.specs.Session.{journal_of, IsRecording, IsBeginning, touched_file, touched_on_both, touched_manifest}
+use Rattle.peb_base.specs.declared.profile.Profile.{Profile}
+use Rattle.flsm_core.specs.Place.{opened}
+use Rattle.flsm_core.specs.Standing.{IsAt}
+use Rattle.recovery.proofs.Begins.{is_recorded}
 use Rattle.recovery.proofs.Openings.{if_ok, if_err}
-use Rattle.recovery.proofs.Sessions.{has_read_recorded, ready_left, ok_journal, log_no_manifest}
+use Rattle.recovery.proofs.Sessions.{ready_left, ok_journal, log_no_manifest}
 use Rattle.recovery.proofs.beginning.begin_session.Goals as goal
 
 pub record_opening-requires-clause-ready : goal.record_opening-requires-clause-ready
 record_opening-requires-clause-ready g c = λ told. (c.requires.looked.0.edits, c.requires.looked.1.ready told)
 
 pub returns-in-Ok-clause-stands : goal.returns-in-Ok-clause-stands
-returns-in-Ok-clause-stands g c = if_ok c.begin_log.result _ _ (λ state at start logs asked is next has.
+returns-in-Ok-clause-stands g c = if_ok c.begin_log.result _ _ (λ state at start logs asked looks has.
     let d = g.J.Journal in
     let old = c.args.journal in
     let mid = c.record_opening.new.journal in
-    let looks = c.requires.looked.1 in
-    let edits = c.requires.looked.0.edits in
-    at start logs (ap (λ (h : Header). h.profile) c.of_log-header.ensures ∙ sym asked) is
-    (ap (λ (h : Header). h.number) c.of_log-header.ensures ∙ next)
-    (has_read_recorded d old mid start logs (Records c.args.profile edits (Open (c.args.looked.recorded.shape.session + 1) c.args.looked.read.next))
-    (λ told. record {
-      elsewhere = c.record_opening.ensures.elsewhere;
-      follows = c.record_opening.ensures.any_moment edits told (looks.ready told);
-      before = g.met.J.Journal.counts_now old;
+    let n = c.args.looked.read.next in
+    let here = subst (λ (p : Profile). HasLooked d old p c.args.looked (stored_of start logs)) (sym asked) looks in
+    let session : c.args.looked.recorded.shape.session ≡ session_of_record start.profile start.edits = ap (λ (s : Shape). s.session) here.shape.shape in
+    let number : c.of_log-header.result.number ≡ n = ap (λ (h : Header). h.number) c.of_log-header.ensures in
+    let recorded : HasRecorded d mid start logs n = is_recorded d old mid start logs c.args.looked here has (record {
+      time = c.record_opening.ensures.time;
+      later = c.record_opening.ensures.never_falls;
+      follows = λ told. subst (λ (p : Profile). Follows (IsRecording p start.edits n) (d.may_leave old) (d.left_since mid (d.moment old))) (sym asked)
+          (subst (λ (k : ℕ). Follows (In ManifestA (Records c.args.profile start.edits (Open (k + 1) n))) (d.may_leave old) (d.left_since mid (d.moment old))) (ap (λ (s : Shape). s.session) looks.shape.shape)
+          (c.record_opening.ensures.any_moment start.edits told (looks.ready told)));
       counts = λ image left. g.met.J.Journal.counts_now mid _ image c.record_opening.ensures.time.later left;
+      kept = λ told image left. subst (λ (p : Profile). IsManifest p (start.edits ++ next_opening p start.edits n ∷ []) (image ManifestA)) (sym asked)
+          (subst (λ (k : ℕ). IsManifest c.args.profile (start.edits ++ Open (k + 1) n ∷ []) (image ManifestA)) (ap (λ (s : Shape). s.session) looks.shape.shape)
+          (ready_left d mid _ c.args.profile (start.edits ++ Open (c.args.looked.recorded.shape.session + 1) n ∷ []) (c.in-Ok.ensures.recorded start.edits told (looks.ready told)) image left));
+    }) in
+    let stands : IsAt d state (opened start c.of_log-header.result.number) = at start logs
+    (record {
+      profile = ap (λ (h : Header). h.profile) c.of_log-header.ensures ∙ sym asked;
+      session = ap (λ (h : Header). h.session) c.of_log-header.ensures ∙ ap (λ (k : ℕ). k + 1) (c.args.looked.same ∙ session);
     })
-    c.record_opening.ensures.time c.record_opening.ensures.never_falls has))
+    here.logs.replay
+    (subst (λ (k : ℕ). HasRecorded d mid start logs k) (sym number) recorded) in
+    subst (λ (k : ℕ). IsAt d state (opened start k)) number stands)
     c.begin_log.ensures.stands
 
 pub returns-in-Ok-clause-recorded : goal.returns-in-Ok-clause-recorded
@@ -103,11 +118,13 @@ returns-in-Ok-clause-touched g c =
     let old = c.args.journal in
     let mid = c.record_opening.new.journal in
     let new = journal_of c.begin_log.result in
+    let file = Log c.args.looked.read.next in
     let number = ap (λ (h : Header). h.number) c.of_log-header.ensures in
-    touched_both d.tells (Log c.args.looked.read.next) (told_by d old) (told_by d mid) (told_by d new)
+    touched_on_both d.tells file (told_by d old) (told_by d mid) (told_by d new)
+    (touched_manifest d.tells file (told_by d old) (told_by d mid)
     (touched_step d.tells ManifestA (told_by d old) (told_by d mid) (g.met.J.Journal.counts_now old) c.record_opening.ensures.time c.record_opening.ensures.elsewhere
-    (λ told. leaves_but ManifestA _ (d.may_leave old) (d.left_since mid (d.moment old)) (c.record_opening.ensures.any_moment c.requires.looked.0.edits told (c.requires.looked.1.ready told))))
-    (subst (λ (n : ℕ). HasTouched d.tells (Log n) (told_by d mid) (told_by d new)) number c.begin_log.ensures.touched)
+    (λ told. leaves_but ManifestA _ (d.may_leave old) (d.left_since mid (d.moment old)) (c.record_opening.ensures.any_moment c.requires.looked.0.edits told (c.requires.looked.1.ready told)))))
+    (touched_file d.tells file (told_by d mid) (told_by d new) (subst (λ (n : ℕ). HasTouched d.tells (Log n) (told_by d mid) (told_by d new)) number c.begin_log.ensures.touched))
 
 pub returns-in-Err-clause-any_moment : goal.returns-in-Err-clause-any_moment
 returns-in-Err-clause-any_moment g c = λ told stored looks image left.

@@ -1,4 +1,4 @@
-use Rattle.std.proofs.Common.{◌≡◌, ◌+◌, List, arith, length, sym, ap, ◌∙◌, Err, subst}
+use Rattle.std.proofs.Common.{List, sym, ap, ◌∙◌, subst}
 use Rattle.disk_model.specs.declared.journal_file.JournalFile.TheVariants.{Log}
 use Rattle.record_log.specs.declared.record.Record.{Record}
 use Rattle.record_log.specs.Records.{bodies_of, views}

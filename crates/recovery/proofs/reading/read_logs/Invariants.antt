@@ -1,4 +1,4 @@
-use Rattle.std.proofs.Common.{◌≡◌, ◌+◌, ◌≤◌, List, IsTrue}
+use Rattle.std.proofs.Common.{◌≡◌, ◌≤◌, List, IsTrue}
 use Rattle.peb_base.specs.Batches.{Batches}
 use Rattle.disk_model.specs.Told.{told_by}
 use Rattle.store_layout.specs.Logs.{Held, BeginsLogs}

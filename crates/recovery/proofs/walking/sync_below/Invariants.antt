@@ -1,4 +1,4 @@
-use Rattle.std.proofs.Common.{ℕ, ◌≤◌}
+use Rattle.std.proofs.Common.{◌≤◌}
 use Rattle.disk_model.specs.Told.{told_by}
 use Rattle.recovery.specs.Opening.{HasWatched}
 use Rattle.recovery.specs.Reading.{KeepsLogs}

@@ -6,21 +6,23 @@ use Rattle.store_layout.proofs.laws.first_images.Goals as goal
 
 pub returns-clause-nothing : goal.returns-clause-nothing
 returns-clause-nothing c = λ profile. record {
-  openings = tt;
-  each = tt;
   logs = [];
-  reads = record {
-    recorded = inl (tt, refl);
-    legal = refl;
-    read = record { holds = tt; within = tt; spelled = refl; ordered = refl };
-  };
-  oldest = 1;
-  lies = record {
-    some = omega arith;
-    before = omega arith;
-    none_below = λ m low. refl;
-    older = λ m from low. absurd (omega (arith, from, low));
-    none_above = λ m high. refl;
+  by = record {
+    openings = tt;
+    each = tt;
+    reads = record {
+      recorded = inl (tt, refl);
+      legal = refl;
+      read = record { holds = tt; within = tt; spelled = refl; ordered = refl };
+    };
+    oldest = 1;
+    lies = record {
+      some = omega arith;
+      before = omega arith;
+      none_below = λ m low. refl;
+      older = λ m from low. absurd (omega (arith, from, low));
+      none_above = λ m high. refl;
+    };
   };
 }
 
@@ -35,45 +37,47 @@ below_one (suc m) low = absurd (omega (arith, low))
 
 pub returns-clause-opened : goal.returns-clause-opened
 returns-clause-opened c = record {
-  openings = (tt, tt);
-  each = tt;
   logs = record { header = record { kind = 76; form = 1; profile = Small; number = 1; session = 1 }; groups = [] } ∷ [];
-  reads = record {
-    recorded = inr (record {
-      each = ((omega arith, omega arith), tt);
-      log = record {
-        gate = 0;
-        rest = [];
-        bytes = first_manifest;
-        holds = refl;
-        closed = λ e. omega (arith, e);
-        splits = record { fits = (refl, refl, refl, refl); each = ((omega arith, omega arith), tt); spelled = refl };
-      };
-    });
-    legal = refl;
-    read = record {
-      holds = (
-        record {
+  by = record {
+    openings = (tt, tt);
+    each = tt;
+    reads = record {
+      recorded = inr (record {
+        each = ((omega arith, omega arith), tt);
+        log = record {
           gate = 0;
           rest = [];
-          bytes = first_log_file;
+          bytes = first_manifest;
           holds = refl;
           closed = λ e. omega (arith, e);
-          splits = record { fits = (refl, refl, refl, omega arith, omega arith, omega arith); each = tt; spelled = refl };
-        },
-        tt,
-      );
-      within = ((refl, omega arith), tt);
-      spelled = ([], [], refl, record { records = refl; each = tt }, refl);
-      ordered = refl;
+          splits = record { fits = (refl, refl, refl, refl); each = ((omega arith, omega arith), tt); spelled = refl };
+        };
+      });
+      legal = refl;
+      read = record {
+        holds = (
+          record {
+            gate = 0;
+            rest = [];
+            bytes = first_log_file;
+            holds = refl;
+            closed = λ e. omega (arith, e);
+            splits = record { fits = (refl, refl, refl, omega arith, omega arith, omega arith); each = tt; spelled = refl };
+          },
+          tt,
+        );
+        within = ((refl, omega arith), tt);
+        spelled = ([], [], refl, record { records = refl; each = tt }, refl);
+        ordered = refl;
+      };
     };
-  };
-  oldest = 1;
-  lies = record {
-    some = omega arith;
-    before = omega arith;
-    none_below = λ m low. below_one m low;
-    older = λ m from low. absurd (omega (arith, from, low));
-    none_above = λ m high. above_one m high;
+    oldest = 1;
+    lies = record {
+      some = omega arith;
+      before = omega arith;
+      none_below = λ m low. below_one m low;
+      older = λ m from low. absurd (omega (arith, from, low));
+      none_above = λ m high. above_one m high;
+    };
   };
 }

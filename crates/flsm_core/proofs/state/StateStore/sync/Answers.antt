@@ -19,7 +19,6 @@ returns-in-Ok-clause-stands g c = λ p is.
       ready = c.in-Ok.ensures.closed;
       file = c.close_group.ensures.file;
       tail = c.in-Ok.ensures.tail;
-      elsewhere = c.close_group.ensures.elsewhere;
     })
     is
 

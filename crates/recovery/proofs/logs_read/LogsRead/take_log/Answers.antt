@@ -1,5 +1,4 @@
-use Rattle.std.proofs.Common.{rules, ◌≡◌, ◌≤◌, refl, sym, ap, ◌∙◌, subst, arith}
-use Rattle.record_log.specs.declared.header.Header.{Header}
+use Rattle.std.proofs.Common.{rules, ◌≡◌, ◌≤◌, refl, sym, ◌∙◌, subst, arith}
 use Rattle.record_log.specs.Records.{bodies_of}
 use Rattle.store_layout.specs.Recorded.{IsWithin}
 use Rattle.recovery.proofs.Founds.{spells_as}
